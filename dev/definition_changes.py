@@ -261,7 +261,7 @@ def call_changes(part, begin):
             yield f"{word}: without it", part.replaced(index, second, part.piece(first, second))
         if word in ("trim_start", "compact", "compacted") and first:
             yield f"{word}: without it", part.replaced(index, first, part.piece(index + 1, first))
-        if word in ("option_or", "nat_le", "nat_lt", "bytes_eq", "same_key", "same_kind", "Takes", "Writes", "gap_address") and second:
+        if word in ("option_or", "nat_le", "nat_lt", "bytes_eq", "same_kind", "Takes", "Writes", "gap_address") and second:
             one, other = part.piece(index + 1, first), part.piece(first, second)
             if word in ("option_or", "nat_le", "nat_lt", "Takes"):
                 yield f"{word} {shown(one)} {shown(other)}: exchanged", part.replaced(index + 1, second, f"{other} {one}")

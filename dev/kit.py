@@ -241,6 +241,7 @@ LIBRARY = {
     "nat_lt": (2, "a < b", lambda a, b: a < b), "nat_eq": (2, "a = b", lambda a, b: a == b),
     "nat_cmp": (2, "the order of two numbers", compared),
     "is_lt": (1, "the order is less", lambda order: order.tag == "Less"),
+    "is_eq": (1, "the order is that of equal things", lambda order: order.tag == "Equal"),
     "lit<": (1, "a proof, whose value doesn't matter", lambda proof: UNIT),
     "length": (1, "how many items", len),
     "map": (2, "f of each item", lambda f, xs: tuple(map(f, xs))),

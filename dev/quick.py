@@ -11,27 +11,29 @@ import heapq
 import inspect
 import re
 
-from kit import SHORT, Record, some
+from kit import SHORT, pair, some
 
 
-def groups(definitions, plain, rows):
-    """The rows by their keys, in one table.
+def groups(definitions, plain, label, fields, is_sorted, rows):
+    """The groups of rows by what they have in the fields, in one table.
 
-    flow_uniq/Key same_key a b = pointwise (λ p q. bytes_eq (part_numbers p) (part_numbers q)) a b
-    flow_uniq/Groups distinct_keys [] = []
-    distinct_keys (key ∷ keys) = key ∷ filter (λ other. not (same_key key other)) (distinct_keys keys)
-    flow_uniq/Groups groups_of_keyed rows =
-    map (λ key. record { key = key; totals = totals_of (filter (λ r. same_key key r.0) rows) })
-    (distinct_keys (map (λ r. r.0) rows))
+    flow_uniq/Grouped grouped same [] = []
+    grouped same (x ∷ xs) =
+    (x, filter (same x) xs) ∷ filter (λ g. not (same x g.0)) (grouped same xs)
+    flow_uniq/Grouped compare_by fields r s =
+    slice_cmp (slice_cmp nat_cmp) (map (in_field r) fields) (map (in_field s) fields)
+    flow_uniq/Grouped row_groups fields sorted rows =
+    let groups = grouped (λ r s. is_eq (compare_by fields r s)) rows in
+    if sorted then in_order (λ g h. is_lt (compare_by fields g.0 h.0)) groups else groups
     """
     if len(rows) < SHORT:
-        return plain(rows)
-    numbers, totals = (definitions.function(*full) for full in (
-        ("flow_uniq/Key", "part_numbers"), ("flow_uniq/Groups", "totals_of")))
+        return plain(label, fields, is_sorted, rows)
+    in_field = definitions.function("flow_uniq/Grouped", "in_field")
     table = {}
     for row in rows:
-        table.setdefault(tuple(map(numbers, row.f_0)), []).append(row)
-    return tuple(Record(f_key=found[0].f_0, f_totals=totals(tuple(found))) for found in table.values())
+        table.setdefault(tuple(tuple(in_field(label, row, field)) for field in fields), []).append(row)
+    found = (table[key] for key in (sorted(table) if is_sorted else table))
+    return tuple(pair(rows[0], tuple(rows[1:])) for rows in found)
 
 
 def in_order(definitions, plain, is_less, items):

@@ -141,16 +141,16 @@ class Quick(Evaluating):
 
     def test_all_are_compared(self):
         self.assertEqual({name for _, name in self.quick.QUICK}, {
-            "groups_of_keyed", "in_order", "map_label", "settled_label", "list_label", "has_prefix", "column_width"})
+            "row_groups", "in_order", "map_label", "settled_label", "list_label", "has_prefix", "column_width"})
 
-    def test_groups(self):
+    @rows((False,), (True,))
+    def test_groups(self, is_sorted):
         rng, made = random.Random(1), self.definitions.call
-        number = lambda: made("flow_uniq/Key.NumberPart", rng.randrange(4))
         labels = self.kit.NONE, self.kit.some((65,)), self.kit.some(())
-        label = lambda: made("flow_uniq/Key.LabelPart", rng.choice(labels))
-        row = lambda: self.kit.Record(f_packets=rng.randrange(9), f_octets=rng.randrange(9))
-        self.compare(("flow_uniq/Groups", "groups_of_keyed"),
-                     tuple(self.kit.pair((number(), label()), row()) for _ in range(150)))
+        row = lambda: self.kit.Record(f_version=made("prefix_keys/Block.V4"), f_src=rng.randrange(3), f_sport=rng.randrange(4))
+        self.compare(("flow_uniq/Grouped", "row_groups"), lambda address: labels[address.f_1],
+                     tuple(made(f"flow_uniq/Grouped.{name}") for name in ("SourcePort", "SourceLabel")), is_sorted,
+                     tuple(row() for _ in range(150)))
 
     @rows((lambda a, b: a < b,), (lambda a, b: a <= b,), (lambda a, b: a // 4 < b // 4,))
     def test_in_order(self, is_less):

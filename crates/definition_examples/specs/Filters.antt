@@ -1,10 +1,8 @@
 use Rattle.std.specs.Prelude.{ℕ, List, [], ◌∷◌, ◌==◌, Bool, Option, None, Some, Result, Ok, find, map, option_map}
-use Rattle.prefix_keys.specs.Text.{AddressOf}
-use Rattle.pmap_model.specs.MapModel.{Label}
 use Rattle.pmap_model.specs.Steps.{◌>>=◌}
 use Rattle.pmap_text.specs.Reading.{map_reading}
 use Rattle.pmap_text.specs.declared.fault.MapFault.{MapFault}
-use Rattle.label_lookup.specs.Labelling.{labelling_of_map}
+use Rattle.label_lookup.specs.Labelling.{Labelling, label_where, labelling_of_map}
 use Rattle.flow_rows.specs.Elements.{RowView}
 use Rattle.flow_filter.specs.Condition.{filter_of, passing, row_passes}
 use Rattle.flow_filter.specs.declared.fault.FilterFault.{FilterFault}
@@ -33,11 +31,11 @@ texts_of given = map (λ index. option_map (λ part. part.1) (find (λ part. pla
     (0 ∷ 1 ∷ 2 ∷ 3 ∷ 4 ∷ 5 ∷ 6 ∷ 7 ∷ 8 ∷ 9 ∷ [])
 
 -- whether a row passes the options given, with these labels of addresses, or the fault of the options
-abbrev pub passes_all : List (FilterOption × List ℕ) → (AddressOf → Option Label) → RowView → Result Bool FilterFault
-passes_all given label row = filter_of (texts_of given) >>= (λ condition. Ok (row_passes condition label row))
+abbrev pub passes_all : List (FilterOption × List ℕ) → Option Labelling → RowView → Result Bool FilterFault
+passes_all given labels row = filter_of (texts_of given) >>= (λ condition. Ok (row_passes condition (label_where labels) row))
 
 abbrev pub passes : FilterOption → List ℕ → RowView → Result Bool FilterFault
-passes option text row = passes_all ((option, text) ∷ []) (λ address. None) row
+passes option text row = passes_all ((option, text) ∷ []) None row
 
 -- the rows that pass the options given, under the map that a text represents
 abbrev pub passing_by : List ℕ → List (FilterOption × List ℕ) → List RowView → Result (List RowView) MapFault

@@ -1,5 +1,6 @@
-use Rattle.std.specs.Prelude.{ℕ, List, Option, None, option_and_then, Result, Ok, Err, codes}
-use Rattle.prefix_keys.specs.Text.{AddressOf, address_of}
+use Rattle.std.specs.Prelude.{ℕ, List, Option, option_and_then, option_map, Result, Ok, codes}
+use Rattle.std.specs.Result.{result_ok}
+use Rattle.prefix_keys.specs.Text.{address_of}
 use Rattle.pmap_model.specs.ListModel.{ListModel}
 use Rattle.pmap_model.specs.MapModel.{Label, MapModel}
 use Rattle.pmap_model.specs.Steps.{◌>>=◌}
@@ -29,13 +30,9 @@ of_list part text = list_reading text >>= (λ l. Ok (part l))
 abbrev pub at_line : MapFaultKind → ℕ → MapFault
 at_line kind line = record { kind = kind; line = line }
 
--- the label of an address under the map that a text represents; none if the text is faulty
-abbrev pub by_reading : Result MapModel MapFault → AddressOf → Option Label
-by_reading (Ok m) address = label_by (labelling_of_map m) address
-by_reading (Err fault) address = None
-
-abbrev pub by_map : List ℕ → AddressOf → Option Label
-by_map text address = by_reading (map_reading text) address
+-- the labelling of the map that a text represents; none if the text is faulty
+abbrev pub by_map : List ℕ → Option Labelling
+by_map text = option_map labelling_of_map (result_ok (map_reading text))
 
 -- the label that a labelling gives a number
 abbrev pub label_at : Labelling → ℕ → Option Label

@@ -1,15 +1,14 @@
 use Rattle.std.specs.Prelude.{ℕ, List, ◌∷◌, Option, false, true}
 use Rattle.std.proofs.Common.{lit<}
-use Rattle.prefix_keys.specs.Text.{AddressOf}
-use Rattle.pmap_model.specs.MapModel.{Label}
+use Rattle.label_lookup.specs.Labelling.{Labelling, label_where}
 use Rattle.flow_rows.specs.Elements.{RowView}
-use Rattle.flow_uniq.specs.Groups.{groups_of, shown_groups}
+use Rattle.flow_uniq.specs.Grouped.{row_groups}
 use Rattle.flow_uniq.specs.Times.{unit_start}
 use Rattle.flow_uniq.specs.declared.field.KeyField.{KeyField}
 use Rattle.flow_uniq.specs.declared.field.KeyField.TheVariants.{Start}
 use Rattle.flow_uniq.specs.declared.field.Precision.TheVariants.{Day, Hour, Minute}
 use Rattle.flow_uniq.specs.declared.field.TimeUnit.{TimeUnit}
-use Rattle.pmap_print.specs.Reports.{groups_text}
+use Rattle.flow_files.specs.Groups.{groups_table}
 use Rattle.pmap_print.specs.Times.{time_text}
 
 -- Units of time, and groups by them.
@@ -31,6 +30,6 @@ abbrev pub start_text : TimeUnit → ℕ → List ℕ
 start_text unit time = time_text unit.precision (unit_start unit time)
 
 -- the printed groups of rows by a unit of time and then by fields, sorted
-abbrev pub by_time : TimeUnit → List KeyField → (AddressOf → Option Label) → List RowView → List ℕ
-by_time unit fields label rows =
-    groups_text (Start unit ∷ fields) (shown_groups true (groups_of (Start unit ∷ fields) label rows)) false
+abbrev pub by_time : TimeUnit → List KeyField → Option Labelling → List RowView → List ℕ
+by_time unit fields labels rows =
+    groups_table (Start unit ∷ fields) false labels (row_groups (label_where labels) (Start unit ∷ fields) true rows)

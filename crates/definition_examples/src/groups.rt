@@ -4,11 +4,14 @@
 ghost use Rattle.definition_examples.specs.Maps.{by_map};
 ghost use Rattle.definition_examples.specs.Reports.{uniq, uniq_of_parts, unlabelled};
 ghost use Rattle.definition_examples.specs.Rows.{tcp, tcp_back};
+ghost use Rattle.flow_uniq.specs.Grouped.{compare_by, grouped};
 ghost use Rattle.flow_uniq.specs.Key.{fields_need_labels};
 ghost use Rattle.flow_uniq.specs.declared.fault.KeyFault.TheVariants.{BadField, FieldRepeated};
-ghost use Rattle.flow_uniq.specs.declared.field.KeyField.TheVariants.{Flags, SourceAddress, SourceLabel};
+ghost use Rattle.flow_uniq.specs.declared.field.KeyField.TheVariants.{Flags, Protocol, SourceAddress, SourceLabel, SourcePort};
+ghost use Rattle.label_lookup.specs.Labelling.{label_where};
 ghost use Rattle.prefix_keys.specs.declared.version.Version.TheVariants.{V6};
-ghost use Rattle.std.specs.Prelude.{◌≡◌, ◌∷◌, [], codes, Err, false, Ok, true};
+ghost use Rattle.std.specs.Prelude.{◌≡◌, ◌==◌, ◌/◌, ◌∷◌, [], codes, Err, false, Ok, true};
+ghost use Rattle.std.specs.declared.cmp.Ordering.TheVariants.{Equal, Greater, Less};
 
 /// FORMATS.md, "Groups of rows": a group is all rows with the same values of the fields.
 pub fn rows_with_the_same_values_are_a_group()
@@ -170,6 +173,24 @@ pub fn u1_and_u2()
     ensures a_blank_between { uniq (codes "sip dip") false unlabelled [] ≡ Err BadField }
     ensures one_label_of_two_fields { fields_need_labels (SourceAddress ∷ SourceLabel ∷ []) ≡ true }
     ensures no_label { fields_need_labels (SourceAddress ∷ Flags ∷ []) ≡ false }
+{}
+
+/// A group has all items that are the same as its first item. Groups are in the order of their first items.
+pub fn items_that_are_the_same_are_a_group()
+    ensures no_items { grouped (λ a b. a == b) [] ≡ [] }
+    ensures two_groups { grouped (λ a b. a == b) (3 ∷ 1 ∷ 3 ∷ []) ≡ (3, 3 ∷ []) ∷ (1, []) ∷ [] }
+    ensures same_digit { grouped (λ a b. a / 10 == b / 10) (25 ∷ 13 ∷ 27 ∷ 14 ∷ 20 ∷ [])
+        ≡ (25, 27 ∷ 20 ∷ []) ∷ (13, 14 ∷ []) ∷ [] }
+{}
+
+/// Rows compare by the first field that differs.
+pub fn rows_compare_by_their_fields()
+    ensures same { compare_by (label_where unlabelled) (Protocol ∷ []) tcp tcp_back ≡ Equal }
+    ensures by_the_second_field { compare_by (label_where unlabelled) (Protocol ∷ SourcePort ∷ []) tcp tcp_back ≡ Greater }
+    ensures by_the_first_field { compare_by (label_where unlabelled) (SourceAddress ∷ SourcePort ∷ []) tcp tcp_back ≡ Less }
+    ensures by_nothing { compare_by (label_where unlabelled) [] tcp tcp_back ≡ Equal }
+    ensures ipv4_first { compare_by (label_where unlabelled) (SourceAddress ∷ []) tcp (record tcp { version = V6; src = 1 }) ≡ Less }
+    ensures no_label_first { compare_by (label_where (by_map (codes "11.0.0.0/8 A\n"))) (SourceLabel ∷ []) tcp (record tcp { version = V6; src = 1 }) ≡ Greater }
 {}
 
 /// The groups of parts of the rows, merged by key: their records, packets and bytes are added.

@@ -3,8 +3,11 @@ use Rattle.std.specs.Option.{option_map_or}
 use Rattle.std.specs.Str.{bytes_eq}
 use Rattle.prefix_keys.specs.Print.{address_text}
 use Rattle.label_lookup.specs.Labelling.{Labelling, label_by, label_where}
+use Rattle.ipfix_read.specs.Message.{MessageView}
+use Rattle.flow_rows.specs.Counts.{rows_of_messages}
 use Rattle.flow_rows.specs.Elements.{RowView}
-use Rattle.flow_uniq.specs.Grouped.{AreGrouped}
+use Rattle.flow_filter.specs.Condition.{Condition, passing}
+use Rattle.flow_uniq.specs.Grouped.{AreGrouped, row_groups}
 use Rattle.flow_uniq.specs.Key.{field_name}
 use Rattle.flow_uniq.specs.Times.{unit_start}
 use Rattle.flow_uniq.specs.declared.field.KeyField.{KeyField}
@@ -37,13 +40,26 @@ field_text labels row field =
     option_map_or (λ c. c.1)
     (find (λ c. bytes_eq c.0 (field_name field)) (row_columns labels row)) []
 
--- The outcome is a table of groups of the rows, each with a first row and others. The line of a group has the texts of
--- the fields of the first row, the number of its rows, and the sums of their packets and bytes.
-abbrev pub PrintsGroups : List KeyField → Bool → Bool → Option Labelling → List RowView → Outcome
-    → Type 0
-PrintsGroups fields sorted columns labels shown outcome = (groups : List (RowView × List RowView))
-    × AreGrouped (label_where labels) fields sorted shown (map (λ g. g.0 ∷ g.1) groups)
-    × Prints (table_text columns (group_titles fields ∷ map (λ g. let rows = g.0 ∷ g.1 in
+-- The table of groups, each given as its first row and the others. The line of a group has the texts of the fields of the
+-- first row, the number of its rows, and the sums of their packets and bytes.
+abbrev pub groups_table : List KeyField → Bool → Option Labelling → List (RowView × List RowView)
+    → Text
+groups_table fields columns labels groups =
+    table_text columns (group_titles fields ∷ map (λ g. let rows = g.0 ∷ g.1 in
     map (field_text labels g.0) fields
     ++ decimal (length rows) ∷ decimal (sum_by (λ r. r.packets) rows)
-    ∷ decimal (sum_by (λ r. r.octets) rows) ∷ []) groups)) outcome
+    ∷ decimal (sum_by (λ r. r.octets) rows) ∷ []) groups)
+
+-- what `uniq` prints: the groups, by fields, of the rows of messages that meet a condition
+abbrev pub uniq_text : List KeyField → Condition → (sorted columns : Bool) → Option Labelling
+    → List MessageView → Text
+uniq_text fields condition sorted columns labels messages = groups_table fields columns labels
+    (row_groups (label_where labels) fields sorted
+    (passing condition labels (rows_of_messages messages)))
+
+-- the outcome is a table of groups of the rows
+abbrev pub PrintsGroups : List KeyField → Bool → Bool → Option Labelling → List RowView → Outcome
+    → Type 0
+PrintsGroups fields sorted columns labels rows outcome = (groups : List (RowView × List RowView))
+    × AreGrouped (label_where labels) fields sorted rows (map (λ g. g.0 ∷ g.1) groups)
+    × Prints (groups_table fields columns labels groups) outcome

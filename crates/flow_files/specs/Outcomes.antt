@@ -1,15 +1,10 @@
-use Rattle.std.specs.Prelude.{◌≡◌, ℕ, Bool, List, Option, Some, None, Result, Ok, Err}
+use Rattle.std.specs.Prelude.{◌≡◌, ℕ, List, Option, Some, None, Result, Ok, Err}
 use Rattle.std.specs.Result.{result_map_both}
 use Rattle.pmap_model.specs.Steps.{◌>>=◌}
 use Rattle.pmap_text.specs.Reading.{list_reading, map_reading}
 use Rattle.ipfix_read.specs.Messages.{file_reading}
 use Rattle.ipfix_read.specs.Message.{MessageView}
-use Rattle.flow_rows.specs.Counts.{rows_of_messages}
-use Rattle.flow_filter.specs.Condition.{Condition, passing}
-use Rattle.flow_uniq.specs.Groups.{groups_of, shown_groups}
-use Rattle.flow_uniq.specs.declared.field.KeyField.{KeyField}
-use Rattle.pmap_print.specs.Reports.{groups_text}
-use Rattle.label_lookup.specs.Labelling.{Labelling, label_where, labelling_of_list, labelling_of_map}
+use Rattle.label_lookup.specs.Labelling.{Labelling, labelling_of_list, labelling_of_map}
 pub use Rattle.flow_files.specs.declared.bytes_fault.BytesFault.{BytesFault}
 use Rattle.flow_files.specs.declared.bytes_fault.BytesFault.TheVariants.{Map as InMap, List as InList, Flows as InFlows}
 use Rattle.flow_files.specs.ByFile.{ByFile}
@@ -52,11 +47,3 @@ Prints text outcome = outcome ≡ Ok text
 abbrev pub Then : {A : Type 0} → (A → Outcome → Type 0) → Result A BytesFault → Outcome → Type 0
 Then rest (Ok value) outcome = rest value outcome
 Then rest (Err fault) outcome = outcome ≡ Err fault
-
--- what `uniq` prints: the groups, by fields, of the rows of messages that meet a condition, with their totals
-abbrev pub uniq_text : List KeyField → Condition → (sorted columns : Bool) → Option Labelling
-    → List MessageView → List ℕ
-uniq_text fields condition sorted columns labels messages =
-    let groups =
-    groups_of fields (label_where labels) (passing condition labels (rows_of_messages messages)) in
-    groups_text fields (shown_groups sorted groups) columns

@@ -6,8 +6,7 @@ ghost use Rattle.flow_rows.specs.Counts.{rows_of_messages};
 ghost use Rattle.flow_filter.specs.Condition.{Condition};
 ghost use Rattle.flow_filter.specs.Laws.{rows_left};
 ghost use Rattle.flow_uniq.specs.declared.field.KeyField.{KeyField};
-ghost use Rattle.flow_files.specs.Groups.{PrintsGroups};
-ghost use Rattle.flow_files.specs.Outcomes.{uniq_text};
+ghost use Rattle.flow_files.specs.Groups.{PrintsGroups, uniq_text};
 ghost use Rattle.flow_files.specs.Laws.{AnsweredWordsAreTaken, AreShared, SubcommandsAreAdded};
 
 use crate::definition::{Argument, FILTERS, SOURCES};

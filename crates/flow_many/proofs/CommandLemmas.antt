@@ -15,10 +15,12 @@ use Rattle.flow_files.specs.declared.fault.RunFault.TheVariants.{CannotOpen, Can
 use Rattle.flow_files.specs.declared.label_file.LabelFile.{LabelFile}
 use Rattle.flow_files.specs.declared.labels.LabelsRead.{LabelsRead}
 use Rattle.flow_files.specs.Opening.{AreOpened}
-use Rattle.flow_files.specs.Outcomes.{uniq_text, source_reading}
+use Rattle.flow_files.specs.Groups.{uniq_text}
+use Rattle.flow_files.specs.Outcomes.{source_reading}
 use Rattle.flow_files.specs.Readers.{AreTexts, AreUnread, Readers, any_failed}
 use Rattle.flow_files.specs.Reports.{AreLabelsOf, IsTextWritten, labelling_found, labelling_read, passing_rows}
 use Rattle.flow_files.specs.Sources.{Text}
+use Rattle.flow_files.proofs.GroupLemmas.{groups-table}
 use Rattle.flow_many.specs.Answer.{Answers}
 use Rattle.flow_many.specs.Ending.{IsEndOf}
 use Rattle.flow_many.specs.Files.{Placed}
@@ -45,7 +47,8 @@ sums_text first now files keys condition columns labels has keys_are condition_i
     let groups = has.rows.groups has.early in
     let by : (fields : List KeyField) (c : Condition) (l : Option Labelling) → List _ = λ fields c l. groups_text fields (shown_groups true (groups_of fields (label_where l) (passing_rows c l (all_messages files)))) columns in
     sym ((λ i. groups_text (groups.fields i) (shown_groups true (groups.groups i)) columns)
-    ∙ (λ i. by (keys_are i) (condition_is i) (labels_are i)))
+    ∙ (λ i. by (keys_are i) (condition_is i) (labels_are i))
+    ∙ groups-table keys true columns labels (passing_rows condition labels (all_messages files)))
 
 -- the text of the lines of messages
 pub listed_text : (first now : Listing) (files : List (List Placed)) → HasListedFiles first files now → messages_text files ≡ lines_text now.lines.items

@@ -5,7 +5,7 @@ use Rattle.ipfix_read.specs.Messages.{file_reading}
 use Rattle.flow_filter.specs.Condition.{Condition}
 use Rattle.flow_uniq.specs.declared.field.KeyField.{KeyField}
 use Rattle.label_lookup.specs.Labelling.{Labelling}
-use Rattle.flow_files.specs.Outcomes.{uniq_text}
+use Rattle.flow_files.specs.Groups.{uniq_text}
 use Rattle.flow_many.specs.Files.{Placed, Refusal, files_reading}
 use Rattle.flow_many.specs.Output.{all_messages}
 

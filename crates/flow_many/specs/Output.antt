@@ -14,7 +14,8 @@ use Rattle.flow_files.specs.declared.bytes_fault.BytesFault.TheVariants.{Sum as 
 use Rattle.flow_files.specs.declared.bytes_fault.SumFaultKind.{SumFaultKind}
 use Rattle.flow_files.specs.declared.bytes_fault.SumFaultKind.TheVariants.{SkippedSet, StartTooLate, TooManyRows}
 use Rattle.flow_files.specs.declared.label_file.LabelFile.{LabelFile}
-use Rattle.flow_files.specs.Outcomes.{uniq_text, source_reading}
+use Rattle.flow_files.specs.Groups.{uniq_text}
+use Rattle.flow_files.specs.Outcomes.{source_reading}
 use Rattle.flow_files.specs.Sources.{Text}
 use Rattle.flow_many.specs.Files.{FileFault, Placed, Refusal, files_reading, of_file}
 use Rattle.flow_many.specs.Request.{Command, Messages, Sum}

@@ -11,3 +11,4 @@ pub mod Merging
 pub mod MergedParts
 pub mod Agreeing
 pub mod Parting
+pub mod RowGroups

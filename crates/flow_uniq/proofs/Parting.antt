@@ -12,6 +12,7 @@ use Rattle.std.proofs.lemmas.Simd.{map-map}
 use Rattle.flow_rows.specs.Elements.{RowView}
 use Rattle.flow_uniq.specs.Key.{Key, same_key}
 use Rattle.flow_uniq.specs.Groups.{distinct_keys}
+use Rattle.flow_uniq.specs.Grouped.{grouped}
 use Rattle.flow_uniq.proofs.Dividing.{HaveKeys, distinct-distinct_keys, have-more, have-others, keyed_by, other_rows, rows_with-keyed, with-others}
 use Rattle.flow_uniq.proofs.Grouping.{any-distinct_keys, rows_with, same_key-equiv}
 
@@ -45,8 +46,7 @@ module _ (key : RowView → Key) where
   part_key part = key part.0
 
   abbrev pub parts : List RowView → List (RowView × List RowView)
-  parts [] = []
-  parts (r ∷ rows) = (r, having (key r) rows) ∷ filter (λ part. not (same_key (key r) (part_key part))) (parts rows)
+  parts rows = grouped (λ r s. same_key (key r) (key s)) rows
 
   -- each has the rows with its key, no two have the same key, and there is one for each row
   pub record AreParts (rows : List RowView) (all : List (RowView × List RowView)) : Type 0 where

@@ -1,12 +1,15 @@
-use Rattle.std.specs.Prelude.{◌≡◌, ◌<◌, ◌↔◌, ℕ, Bool, true, List, [], ◌∷◌, Option, Contains, length, map, slice_index_or, sum_by}
+use Rattle.std.specs.Prelude.{◌≡◌, ◌<◌, ◌↔◌, ℕ, Bool, true, List, [], ◌∷◌, Option, Contains, filter, if◌then◌else◌, length, map, not, slice_index_or, sum_by}
 use Rattle.std.specs.Cmp.Lexicographic.{slice_cmp}
 use Rattle.std.specs.List.{flat_map}
 use Rattle.std.specs.List.Sorted.{IsPermutation}
 use Rattle.std.specs.Option.{option_map_or}
-use Rattle.std.specs.Ordering.{is_lt, nat_cmp}
+use Rattle.std.specs.Ordering.{is_eq, is_lt, nat_cmp}
+use Rattle.std.specs.declared.cmp.Ordering.{Ordering}
+use Rattle.std.specs.declared.cmp.Ordering.TheVariants.{Equal, Less}
 use Rattle.prefix_keys.specs.Block.{width_of}
 use Rattle.prefix_keys.specs.Text.{AddressOf}
 use Rattle.pmap_model.specs.MapModel.{Label}
+use Rattle.pmap_model.specs.Sorting.{in_order}
 use Rattle.flow_rows.specs.Elements.{RowView}
 use Rattle.flow_uniq.specs.declared.field.KeyField.{KeyField}
 use Rattle.flow_uniq.specs.declared.field.KeyField.TheVariants.{SourceAddress, DestinationAddress, SourcePort, DestinationPort, Protocol, Flags, SourceLabel, DestinationLabel, Start}
@@ -14,7 +17,13 @@ use Rattle.flow_uniq.specs.Key.{key_of}
 use Rattle.flow_uniq.specs.Times.{unit_start}
 use Rattle.flow_uniq.specs.Groups.{GroupModel}
 
--- What it means that rows are grouped by fields, without the keys by which `groups_of` finds the groups.
+-- Rows in groups by fields.
+
+-- the items in groups, each as its first item and the others that are the same, in the order of the first items
+abbrev pub grouped : {A : Type 0} → (A → A → Bool) → List A → List (A × List A)
+grouped same [] = []
+grouped same (x ∷ xs) =
+    (x, filter (same x) xs) ∷ filter (λ g. not (same x g.0)) (grouped same xs)
 
 -- The function gives the label of each address, if it has one.
 module _ (label : AddressOf → Option Label) where
@@ -31,6 +40,18 @@ module _ (label : AddressOf → Option Label) where
   in_field r DestinationLabel = option_map_or (λ t. 0 ∷ t) (label (r.version, r.dst)) []
   in_field r (Start unit) = option_map_or (λ n. n ∷ []) (unit_start unit r.start_ms) []
 
+  -- how two rows compare: by what they have in the first field that differs
+  abbrev pub compare_by : List KeyField → RowView → RowView → Ordering
+  compare_by fields r s =
+      slice_cmp (slice_cmp nat_cmp) (map (in_field r) fields) (map (in_field s) fields)
+
+  -- The groups of rows in the order of output, each as its first row and the others. The rows of a group have the same in
+  -- each field. The groups are in the order of their first rows, or sorted by what these have.
+  abbrev pub row_groups : List KeyField → Bool → List RowView → List (RowView × List RowView)
+  row_groups fields sorted rows =
+      let groups = grouped (λ r s. is_eq (compare_by fields r s)) rows in
+      if sorted then in_order (λ g h. is_lt (compare_by fields g.0 h.0)) groups else groups
+
   -- Each row is in one group. Two rows are in the same group if and only if they have the same in each field. If the groups
   -- are sorted, a row of an earlier group is before a row of a later one: in the first field that differs, it has less.
   pub record AreGrouped (fields : List KeyField) (sorted : Bool)
@@ -38,8 +59,8 @@ module _ (label : AddressOf → Option Label) where
     pub once : IsPermutation rows (flat_map (λ g. g) groups)
     pub together : (i j : ℕ) (r s : RowView)
         → Contains (slice_index_or groups i []) r → Contains (slice_index_or groups j []) s
-        → let at = λ (r : RowView). map (in_field r) fields in (i ≡ j ↔ at r ≡ at s)
-        × (sorted ≡ true → i < j → is_lt (slice_cmp (slice_cmp nat_cmp) (at r) (at s)) ≡ true)
+        → (i ≡ j ↔ compare_by fields r s ≡ Equal)
+        × (sorted ≡ true → i < j → compare_by fields r s ≡ Less)
 
 -- Below: only contracts of parts and proofs use these; no promise of the program rests on them.
 

@@ -51,8 +51,6 @@ is_before g h =
 abbrev pub shown_groups : Bool → List GroupModel → List GroupModel
 shown_groups sorted groups = if sorted then in_order is_before groups else groups
 
--- Below: only contracts of parts and proofs use these; no promise of the program rests on them.
-
 -- groups with the fields of their keys
 pub record GroupsModel : Type 0 where
   pub fields : List KeyField

@@ -83,6 +83,12 @@ keys_reading text =
     if has_unnamed (items_of text) then Err BadField
     else ok_or (each_once (named_fields (items_of text))) FieldRepeated
 
+-- Below: only contracts of parts and proofs use these; no promise of the program rests on them.
+
+-- the start of a unit of time, followed by fields, if each occurs once
+abbrev pub with_unit : TimeUnit → List KeyField → Option (List KeyField)
+with_unit unit fields = fold with_field (Some (Start unit ∷ [])) fields
+
 -- The key of a row.
 
 -- a part of a key: an address, a number, the text of a label or none, or the number of a day, an hour or a minute or none
@@ -125,9 +131,3 @@ part_numbers (TimePart precision number) =
 -- whether the keys have equal parts
 abbrev pub same_key : Key → Key → Bool
 same_key a b = pointwise (λ p q. bytes_eq (part_numbers p) (part_numbers q)) a b
-
--- Below: only contracts of parts and proofs use these; no promise of the program rests on them.
-
--- the start of a unit of time, followed by fields, if each occurs once
-abbrev pub with_unit : TimeUnit → List KeyField → Option (List KeyField)
-with_unit unit fields = fold with_field (Some (Start unit ∷ [])) fields

@@ -7,7 +7,7 @@ ghost use Rattle.pmap_model.specs.Sorting.{in_order};
 ghost use Rattle.flow_rows.specs.Elements.{RowView};
 ghost use Rattle.flow_uniq.specs.Key.{KeyField, key_of};
 ghost use Rattle.flow_uniq.specs.Groups.{GroupModel, groups_of, is_before, shown_groups};
-ghost use Rattle.flow_uniq.specs.Grouped.{AreGrouped, group_with};
+ghost use Rattle.flow_uniq.specs.Grouped.{AreGrouped, group_with, row_groups};
 ghost use Rattle.flow_uniq.specs.Laws.{DivideRows, MergedAreAll, MergedDivide};
 
 /// The groups of rows have distinct keys, and each sums exactly the rows that have its key. Their records, packets and
@@ -30,10 +30,12 @@ pub fn merged_groups_divide_the_rows()
     ensures all { MergedAreAll }
 {}
 
-/// The rows are grouped by their fields, without regard to keys. Each group has the fields of its first row, and sums its
-/// rows.
+/// The rows are grouped by their fields, without regard to keys. Their groups by keys have the key of the first row of each
+/// of these groups, and sum its rows.
 pub fn rows_are_grouped_by_fields()
-    ensures { (fields : List KeyField) (label : AddressOf → Option Label) (sorted : Bool) (rows : List RowView) →
-        (groups : List (RowView × List RowView)) × AreGrouped label fields sorted rows (map (λ g. g.0 ∷ g.1) groups)
-        × (shown_groups sorted (groups_of fields label rows) ≡ map (group_with label fields) groups) }
+    ensures grouped { (fields : List KeyField) (label : AddressOf → Option Label) (sorted : Bool) (rows : List RowView) →
+        AreGrouped label fields sorted rows (map (λ g. g.0 ∷ g.1) (row_groups label fields sorted rows)) }
+    ensures keys { (fields : List KeyField) (label : AddressOf → Option Label) (sorted : Bool) (rows : List RowView) →
+        shown_groups sorted (groups_of fields label rows)
+        ≡ map (group_with label fields) (row_groups label fields sorted rows) }
 {}

@@ -26,8 +26,8 @@ use Rattle.flow_files.specs.declared.by_file.ByFile.{ByFile}
 use Rattle.flowlabel.specs.Request.{Cat, Check, Command, Info, Label, Recert, Rows, Shrink, Shrunk, Uniq}
 use Rattle.flow_files.specs.Sources.{Text}
 use Rattle.flowlabel.specs.declared.command.Shrunk.TheVariants as shrunk
-use Rattle.flow_files.specs.Groups.{row_columns}
-use Rattle.flow_files.specs.Outcomes.{Outcome, Prints, Then, labels_reading, report_reading, uniq_text, with_bytes_fault}
+use Rattle.flow_files.specs.Groups.{row_columns, uniq_text}
+use Rattle.flow_files.specs.Outcomes.{Outcome, Prints, Then, labels_reading, report_reading, with_bytes_fault}
 
 -- The output of a command for the texts of its files: the text that it prints, or the first fault of these texts.
 

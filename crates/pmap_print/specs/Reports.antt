@@ -31,30 +31,12 @@ abbrev pub title_line : Bool → Line
 title_line false = row_titles
 title_line true = row_titles ++ label_titles
 
--- The printed text of groups.
+-- The header of groups.
 
 -- the column names of groups by these fields, and of their totals
 abbrev pub group_titles : List KeyField → Line
 group_titles fields =
     map field_name fields ++ codes "records" ∷ codes "packets" ∷ codes "bytes" ∷ []
-
--- the text of a part of a key, which is empty for a missing label
-abbrev pub part_text : KeyPartModel → Text
-part_text (AddressPart address) = address_text address.0 address.1
-part_text (NumberPart number) = decimal number
-part_text (LabelPart label) = unwrap_or label []
-part_text (TimePart precision number) = time_text precision number
-
--- the fields of a group's line
-abbrev pub group_fields : GroupModel → Line
-group_fields g =
-    map part_text g.key ++ decimal g.totals.records ∷ decimal g.totals.packets
-    ∷ decimal g.totals.octets ∷ []
-
--- the text of groups by these fields, in the order given: the header and the line of each group
-abbrev pub groups_text : List KeyField → List GroupModel → Bool → Text
-groups_text fields groups columns =
-    table_text columns (group_titles fields ∷ map group_fields groups)
 
 -- The printed text of counts.
 
@@ -123,6 +105,24 @@ abbrev pub labels_of_row : Option (List LabelTexts) → ℕ → Option LabelText
 labels_of_row labels index = option_map (λ texts. slice_index_or texts index (None, None)) labels
 
 -- How groups are printed.
+
+-- the text of a part of a key, which is empty for a missing label
+abbrev pub part_text : KeyPartModel → Text
+part_text (AddressPart address) = address_text address.0 address.1
+part_text (NumberPart number) = decimal number
+part_text (LabelPart label) = unwrap_or label []
+part_text (TimePart precision number) = time_text precision number
+
+-- the fields of a group's line
+abbrev pub group_fields : GroupModel → Line
+group_fields g =
+    map part_text g.key ++ decimal g.totals.records ∷ decimal g.totals.packets
+    ∷ decimal g.totals.octets ∷ []
+
+-- the text of groups by these fields, in the order given: the header and the line of each group
+abbrev pub groups_text : List KeyField → List GroupModel → Bool → Text
+groups_text fields groups columns =
+    table_text columns (group_titles fields ∷ map group_fields groups)
 
 -- the sorted groups, if they are given, otherwise the groups in the order of their first rows
 abbrev pub ordered : Option (Vec Group) → GroupsModel → List GroupModel

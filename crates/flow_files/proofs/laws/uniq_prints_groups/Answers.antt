@@ -1,59 +1,15 @@
-use Rattle.std.proofs.Common.{◌≡◌, ◌∙◌, List, [], ◌∷◌, ◌++◌, Option, None, Some, Ok, ap, map, refl}
-use Rattle.std.specs.Prelude.{decimal, length, sum_by}
-use Rattle.label_lookup.specs.Labelling.{Labelling, label_where}
-use Rattle.flow_filter.specs.Laws.{rows_left}
+use Rattle.std.proofs.Common.{List, Ok, subst, refl}
+use Rattle.label_lookup.specs.Labelling.{label_where}
+use Rattle.flow_filter.specs.Condition.{passing}
 use Rattle.flow_rows.specs.Counts.{rows_of_messages}
 use Rattle.flow_rows.specs.Elements.{RowView}
-use Rattle.flow_uniq.specs.declared.field.KeyField.{KeyField}
-use Rattle.flow_uniq.specs.declared.field.KeyField.TheVariants.{SourceAddress, DestinationAddress, SourcePort, DestinationPort, Protocol, Flags, SourceLabel, DestinationLabel, Start}
-use Rattle.flow_uniq.specs.Groups.{groups_of, shown_groups}
-use Rattle.flow_uniq.specs.Grouped.{group_with}
-use Rattle.flow_uniq.specs.Key.{key_of, key_part}
-use Rattle.pmap_print.specs.Reports.{group_fields, group_titles, groups_text, part_text}
-use Rattle.pmap_print.specs.Table.{Line, table_text}
-use Rattle.flow_files.specs.Groups.{field_text}
+use Rattle.flow_uniq.specs.Grouped.{row_groups}
+use Rattle.flow_files.specs.Groups.{PrintsGroups, uniq_text}
 use Rattle.flow_files.proofs.laws.uniq_prints_groups.Goals as goal
-
--- the line of a group has the texts of a row's fields
-text_of_field : (labels : Option Labelling) (row : RowView) (field : KeyField) → part_text (key_part (label_where labels) row field) ≡ field_text labels row field
-text_of_field labels row SourceAddress = refl
-text_of_field labels row DestinationAddress = refl
-text_of_field labels row SourcePort = refl
-text_of_field labels row DestinationPort = refl
-text_of_field labels row Protocol = refl
-text_of_field labels row Flags = refl
-text_of_field None row SourceLabel = refl
-text_of_field (Some l) row SourceLabel = refl
-text_of_field None row DestinationLabel = refl
-text_of_field (Some l) row DestinationLabel = refl
-text_of_field labels row (Start unit) = refl
-
-texts_of_fields : (labels : Option Labelling) (row : RowView) (fields : List KeyField)
-    → map part_text (key_of (label_where labels) fields row) ≡ map (field_text labels row) fields
-texts_of_fields labels row [] = refl
-texts_of_fields labels row (field ∷ fields) = λ i. text_of_field labels row field i ∷ texts_of_fields labels row fields i
-
-abbrev group_line : List KeyField → Option Labelling → RowView × List RowView → Line
-group_line fields labels g =
-    let rows : List RowView = g.0 ∷ g.1 in
-    map (field_text labels g.0) fields ++ decimal (length rows) ∷ decimal (sum_by (λ r. r.packets) rows) ∷ decimal (sum_by (λ r. r.octets) rows) ∷ []
-
-lines_of_groups : (fields : List KeyField) (labels : Option Labelling) (groups : List (RowView × List RowView))
-    → map group_fields (map (group_with (label_where labels) fields) groups) ≡ map (group_line fields labels) groups
-lines_of_groups fields labels [] = refl
-lines_of_groups fields labels (group ∷ groups) =
-    let g = group_with (label_where labels) fields group in
-    λ i. (texts_of_fields labels group.0 fields i ++ decimal g.totals.records ∷ decimal g.totals.packets ∷ decimal g.totals.octets ∷ [])
-    ∷ lines_of_groups fields labels groups i
 
 pub returns : goal.returns
 returns c fields condition sorted columns labels messages =
-    let left = rows_left condition labels (rows_of_messages messages) in
-    let (groups, grouped, are) = c.rows_are_grouped_by_fields.ensures fields (label_where labels) sorted left in (
-      groups,
-      grouped,
-      ap (λ (shown : List RowView). Ok (groups_text fields (shown_groups sorted (groups_of fields (label_where labels) shown)) columns))
-          (c.options_hold_together.ensures.left condition labels (rows_of_messages messages))
-          ∙ ap (λ shown. Ok (groups_text fields shown columns)) are
-          ∙ ap (λ (lines : List Line). Ok (table_text columns (group_titles fields ∷ lines))) (lines_of_groups fields labels groups),
-    )
+    let rows = passing condition labels (rows_of_messages messages) in
+    subst (λ (shown : List RowView). PrintsGroups fields sorted columns labels shown (Ok (uniq_text fields condition sorted columns labels messages)))
+    (c.options_hold_together.ensures.left condition labels (rows_of_messages messages))
+    (row_groups (label_where labels) fields sorted rows, c.rows_are_grouped_by_fields.ensures.grouped fields (label_where labels) sorted rows, refl)

@@ -3,7 +3,7 @@ use Rattle.std.specs.Prelude.{option_map}
 use Rattle.pmap_model.specs.Steps.{◌>>=◌}
 use Rattle.flow_uniq.specs.Groups.{GroupsModel, shown_groups}
 use Rattle.pmap_print.specs.Reports.{groups_text}
-use Rattle.flow_files.specs.Outcomes.{uniq_text}
+use Rattle.flow_files.specs.Groups.{uniq_text}
 use Rattle.flow_files.specs.Reports.{labelling_found, labelling_read}
 use Rattle.flow_files.proofs.ReadLemmas.{found_is, handed_on}
 use Rattle.flow_many.specs.Files.{Refusal, files_reading, of_file}

@@ -7,8 +7,8 @@ use Rattle.flow_filter.specs.Laws.{rows_left}
 use Rattle.flow_rows.specs.Counts.{rows_of_messages}
 use Rattle.flow_rows.specs.Elements.{RowView}
 use Rattle.pmap_print.specs.Messages.{messages_text}
-use Rattle.flow_files.specs.Groups.{PrintsGroups}
-use Rattle.flow_files.specs.Outcomes.{uniq_text, source_reading}
+use Rattle.flow_files.specs.Groups.{PrintsGroups, uniq_text}
+use Rattle.flow_files.specs.Outcomes.{source_reading}
 use Rattle.flow_files.specs.Sources.{Text}
 use Rattle.flow_many.specs.Files.{FileFault, Placed, files_reading, of_file}
 use Rattle.flow_many.specs.Output.{all_messages, has_time, refusal_by}

@@ -1,5 +1,5 @@
 use Rattle.std.proofs.Common.{ap, true}
-use Rattle.flow_files.specs.Outcomes.{uniq_text}
+use Rattle.flow_files.specs.Groups.{uniq_text}
 use Rattle.flow_many.proofs.JoinedLemmas.{joined_messages}
 use Rattle.flow_many.proofs.laws.sum_of_joined_file.Goals as goal
 

@@ -27,10 +27,12 @@ use Rattle.flow_files.specs.declared.label_file.LabelFile.{LabelFile}
 use Rattle.flow_files.specs.declared.label_file.LabelFile.TheVariants.{Map, List as Prefixes}
 use Rattle.flowlabel.specs.Joined.{IsPutTogether}
 use Rattle.flow_files.specs.declared.bytes_fault.BytesFault.{BytesFault}
+use Rattle.flow_files.specs.Groups.{uniq_text}
 use Rattle.flow_files.specs.Outcomes.{Outcome, Prints, Then, report_reading, source_reading, with_bytes_fault}
 use Rattle.flowlabel.specs.Output.{IsOutput, labelled_row_lines}
 use Rattle.flow_files.specs.Sources.{Text}
 use Rattle.flow_files.proofs.ReadLemmas.{flows_in}
+use Rattle.flow_files.proofs.GroupLemmas.{groups-table}
 use Rattle.flowlabel.proofs.Outcomes.{printed_of, read_then}
 use Rattle.flowlabel.proofs.RowLemmas.{line_of_row}
 use Rattle.flowlabel.proofs.run.joined.output_of_joined_file.Goals as goal
@@ -139,7 +141,7 @@ module _ (first : File) (later : List File) (follow : CanFollow first later) (te
       let grouped : Option Labelling → List RowView → List GroupModel = λ l rows. shown_groups sorted (groups_of fields (label_where l) rows) in
       let printed : List GroupModel → Text = λ groups. groups_text fields groups columns in
       let rest : Option Labelling × List MessageView → Outcome → Type 0 =
-      λ read. Prints (printed (grouped read.0 (passing condition read.0 (rows_of_messages read.1)))) in
+      λ read. Prints (uniq_text fields condition sorted columns read.0 read.1) in
       let l : Option Labelling = (found rest labels is).0 in
       let groups : grouped l (shown condition l whole) ≡ shown_groups sorted (merged (flat_map (λ file. grouped l (shown condition l file)) files)) =
       ap (grouped l) (shown_are condition l ∙ sym (changed_parts (λ (rows : List RowView). rows) (shown condition l) files))
@@ -147,8 +149,10 @@ module _ (first : File) (later : List File) (follow : CanFollow first later) (te
       ∙ ap (λ (all : List GroupModel). shown_groups sorted (merged all)) (changed_parts (grouped l) (shown condition l) files) in (
         l,
         (
-          each_prints rest labels is (λ file. printed (grouped l (shown condition l file))) (λ file. refl),
-          text_is out (printed (grouped l (shown condition l whole))) (found rest labels is).2 ∙ ap printed groups,
+          each_prints rest labels is (λ file. printed (grouped l (shown condition l file)))
+              (λ file. ap Ok (groups-table fields sorted columns l (shown condition l file))),
+          text_is out (uniq_text fields condition sorted columns l whole.1) (found rest labels is).2
+              ∙ sym (groups-table fields sorted columns l (shown condition l whole)) ∙ ap printed groups,
         ),
       )
 

@@ -14,7 +14,8 @@ use Rattle.pmap_print.specs.Table.{table_text}
 use Rattle.pmap_stretches.specs.RunsText.{IsRunsText, runs_text}
 use Rattle.flow_files.specs.declared.bytes_fault.BytesFault.{BytesFault}
 use Rattle.flow_files.specs.declared.bytes_fault.BytesFault.TheVariants.{Map as InMap}
-use Rattle.flow_files.specs.Outcomes.{Outcome, Prints, Then, labels_reading, report_reading, uniq_text}
+use Rattle.flow_files.specs.Groups.{uniq_text}
+use Rattle.flow_files.specs.Outcomes.{Outcome, Prints, Then, labels_reading, report_reading}
 use Rattle.flow_files.proofs.ReadLemmas.{certificate_in, flows_in, list_in, map_in}
 use Rattle.flowlabel.specs.Output.{check_reading, label_text, labelled_row_lines, minimal_text, shrunk_text}
 use Rattle.flowlabel.proofs.Outcomes.{unwrapped}

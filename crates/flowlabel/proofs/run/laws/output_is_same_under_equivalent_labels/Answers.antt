@@ -12,7 +12,8 @@ use Rattle.pmap_print.specs.Table.{table_text}
 use Rattle.flow_files.specs.declared.bytes_fault.BytesFault.{BytesFault}
 use Rattle.flow_files.specs.declared.bytes_fault.BytesFault.TheVariants.{List as InList, Map as InMap}
 use Rattle.flow_files.specs.declared.label_file.LabelFile.TheVariants.{Map, List as Prefixes}
-use Rattle.flow_files.specs.Outcomes.{Outcome, Prints, Then, labels_reading, uniq_text}
+use Rattle.flow_files.specs.Groups.{uniq_text}
+use Rattle.flow_files.specs.Outcomes.{Outcome, Prints, Then, labels_reading}
 use Rattle.flow_files.specs.Sources.{Text}
 use Rattle.flow_files.proofs.ReadLemmas.{report_after}
 use Rattle.flowlabel.specs.Output.{label_text, labelled_row_lines}

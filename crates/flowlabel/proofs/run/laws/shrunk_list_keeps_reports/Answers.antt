@@ -12,7 +12,7 @@ use Rattle.flowlabel.specs.declared.command.Shrunk.TheVariants as shrunk
 use Rattle.flow_rows.specs.Counts.{rows_of_messages}
 use Rattle.flow_filter.specs.Condition.{passing}
 use Rattle.pmap_print.specs.Table.{table_text}
-use Rattle.flow_files.specs.Outcomes.{uniq_text}
+use Rattle.flow_files.specs.Groups.{uniq_text}
 use Rattle.flowlabel.proofs.run.laws.shrunk_list_keeps_reports.Goals as goal
 
 pub returns : goal.returns

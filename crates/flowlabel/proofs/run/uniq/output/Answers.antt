@@ -4,6 +4,7 @@ use Rattle.flow_uniq.specs.declared.field.KeyField.{KeyField}
 use Rattle.label_lookup.specs.Labelling.{label_where}
 use Rattle.pmap_print.specs.Reports.{groups_text}
 use Rattle.flow_files.specs.Reports.{passing_rows}
+use Rattle.flow_files.proofs.GroupLemmas.{groups-table}
 use Rattle.flowlabel.proofs.MadeLemmas.{faulty, makes}
 use Rattle.flow_files.proofs.ReadLemmas.{no_memory_left, none_read}
 use Rattle.flowlabel.proofs.run.uniq.output.Goals as goal
@@ -28,5 +29,6 @@ returns g c flows =
           ap Ok (same
           ∙ (λ j. groups_text ((has.fields ∙ c.in_ok-groups.ensures.fields) j) (shown_groups grouping.sorted (has.groups j)) grouping.columns)
           ∙ ap (λ (fields : List KeyField). groups_text grouping.keys.now (shown_groups grouping.sorted
-          (groups_of fields (label_where read.0) (passing_rows grouping.filter.now read.0 read.1))) grouping.columns) c.in_ok-groups.ensures.fields),
+          (groups_of fields (label_where read.0) (passing_rows grouping.filter.now read.0 read.1))) grouping.columns) c.in_ok-groups.ensures.fields
+          ∙ groups-table grouping.keys.now grouping.sorted grouping.columns read.0 (passing_rows grouping.filter.now read.0 read.1)),
     ))
