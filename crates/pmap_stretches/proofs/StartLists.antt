@@ -1,14 +1,14 @@
 -- The order of statements by their first addresses.
-use Rattle.std.proofs.Common.{◌≡◌, ◌∙◌, ℕ, ◌+◌, ◌<◌, inl, inr, List, [], ◌∷◌, ◌++◌, Option, Some, All, Contains, get_or, length, slice_get, refl, sym, ap, subst, arith}
+use Rattle.std.proofs.Common.{◌≡◌, ◌∙◌, ℕ, ◌+◌, ◌<◌, inl, inr, List, [], ◌∷◌, ◌++◌, Option, Some, All, Contains, get_or, length, map, slice_get, refl, sym, ap, subst, arith}
 use Rattle.std.specs.Option.{option_map_or}
 use Rattle.std.specs.List.Sorted.{IsNonDecreasingBy, IsPermutation}
 use Rattle.std.proofs.lemmas.Bool.{cases_eq}
-use Rattle.std.proofs.lemmas.List.{length_push}
+use Rattle.std.proofs.lemmas.List.{get_or-map, length-map, length_push, map-append}
 use Rattle.std.proofs.lemmas.List.Elements.{All-push, Contains-append_left, Contains-push}
-use Rattle.std.proofs.lemmas.List.Sorted.{All-permutation, Contains-permutation, length_permutation}
+use Rattle.std.proofs.lemmas.List.Sorted.{All-permutation, Contains-permutation, IsNonDecreasingBy-from_default, IsPermutation-map, length_permutation}
 use Rattle.std.proofs.lemmas.Option.{get_or_from_slice_get, same_Some, slice_get-get_or, slice_get_cases, slice_get_within}
 use Rattle.pmap_model.specs.declared.statement.Statement.{Statement}
-use Rattle.pmap_stretches.specs.Starting.{IsOrder, Start, number_at}
+use Rattle.pmap_stretches.specs.Starting.{IsOrder, NarrowStart, Start, number_at, start_of_narrow}
 
 -- statements that ascend are in order
 pub given_order : (ss : List Statement) → IsNonDecreasingBy (λ s. s.span.low.value) ss → IsOrder ss []
@@ -55,6 +55,12 @@ first_more ss count starts s has listed =
           ];
     }
 
+pub narrow_more : (ss : List Statement) (count : ℕ) (starts : List NarrowStart) (n : NarrowStart) (s : Statement)
+    → HasFirst ss count (map start_of_narrow starts) → slice_get ss count ≡ Some s → start_of_narrow n ≡ start_of count s
+    → HasFirst ss (count + 1) (map start_of_narrow (starts ++ n ∷ []))
+narrow_more ss count starts n s has listed is =
+    rw (map-append start_of_narrow starts (n ∷ []), is) (first_more ss count (map start_of_narrow starts) s has listed)
+
 -- all starts, sorted
 module _ (ss : List Statement) (count : ℕ) (starts sorted : List Start) (has : HasFirst ss count starts) (all : count ≡ length ss)
     (moved : IsPermutation starts sorted) (up : IsNonDecreasingBy (λ start. start.low) sorted) where
@@ -94,3 +100,14 @@ module _ (ss : List Statement) (count : ℕ) (starts sorted : List Start) (has :
         let b = low k s below then in
         omega (arith, order, a, b);
   }
+
+pub narrow_order : (ss : List Statement) (count : ℕ) (starts sorted : List NarrowStart) → HasFirst ss count (map start_of_narrow starts)
+    → count ≡ length ss → IsPermutation starts sorted → IsNonDecreasingBy (λ n. n.low) sorted → IsOrder ss (map start_of_narrow sorted)
+narrow_order ss count starts sorted has all moved up =
+    let none : NarrowStart = record { low = 0; number = 0 } in
+    sorted_order ss count (map start_of_narrow starts) (map start_of_narrow sorted) has all (IsPermutation-map start_of_narrow starts sorted moved)
+    (IsNonDecreasingBy-from_default (λ start. start.low) (map start_of_narrow sorted) (start_of_narrow none)
+    (λ i j le less.
+    let below : j < length sorted = omega (arith, less, length-map sorted start_of_narrow) in
+    rw (get_or-map start_of_narrow sorted i none (start_of_narrow none) (omega (arith, le, below)), get_or-map start_of_narrow sorted j none (start_of_narrow none) below)
+    (up i j none le below)))

@@ -1,7 +1,12 @@
 use Rattle.std.specs.Prelude.{◌≡◌, ℕ, ◌<◌, ◌≤◌, List, Some, length, slice_get}
 use Rattle.std.specs.Option.{option_map_or}
 use Rattle.pmap_model.specs.declared.statement.Statement.{Statement}
+pub use Rattle.pmap_stretches.specs.declared.stretches.start.NarrowStart.{NarrowStart}
 pub use Rattle.pmap_stretches.specs.declared.stretches.start.Start.{Start}
+
+-- the start that is stored in 8 bytes
+abbrev pub start_of_narrow : NarrowStart → Start
+start_of_narrow narrow = record { low = narrow.low; number = narrow.number }
 
 -- the number of the statement with an index in the order of these starts; without starts, the order is the given one
 abbrev pub number_at : List Start → ℕ → ℕ

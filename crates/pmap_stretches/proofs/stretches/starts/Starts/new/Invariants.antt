@@ -1,5 +1,0 @@
-use Rattle.pmap_stretches.proofs.StartLists.{HasFirst}
-use Rattle.pmap_stretches.proofs.stretches.starts.Starts.new.Given as goal
-
-abbrev pub invariant-loop-number : goal.invariant-loop-number
-invariant-loop-number l = HasFirst l.statements l.number l.sorted.items
