@@ -1,10 +1,10 @@
 //! Reading and writing all bytes.
-ghost use Rattle.std.specs.Prelude.{◌≡◌, ◌<◌, ◌≤◌, ⊤, false, true, length, take, IfOk, OnErr, OnOk};
+ghost use Rattle.std.specs.Prelude.{◌≡◌, ◌<◌, ◌≤◌, ⊤, false, true, length, take, vec_len, IfOk, OnErr, OnOk};
 ghost use Rattle.flow_io.specs.Devices.{Ends, ReadsInput, Gives, has_ended, is_failed_read};
 
 use crate::devices::{DeviceFault, Input, Output};
 use crate::given::{Given, end, give};
-use std::alloc::Global;
+use std::alloc::{AllocError, Global};
 use thiserror::Error;
 
 /// The reason why a source was not read to its end.
@@ -20,6 +20,22 @@ pub enum ReadStop {
 
 // The number of bytes that are requested from the reader at a time.
 const CHUNK: usize = 65536;
+
+// The number of bytes for which a text of a chunk or more gets memory at once, 32 MB. The system takes only what is
+// filled. glibc's `malloc` always maps a block above 32 MB: it grows without a copy, and is unmapped when it is freed.
+// If smaller mapped blocks are freed, `malloc` puts later ones into its heap, where they grow by copies.
+const TEXT_ROOM: usize = 33_554_432;
+
+// Gives a text of a chunk or more this memory.
+fn make_room(text: &mut Vec<u8>) -> Result<(), AllocError>
+    ensures items { text.new.items ≡ text.old.items }
+    ensures len { vec_len text.new ≡ vec_len text.old }
+{
+    if text.len() < CHUNK || TEXT_ROOM < text.capacity() {
+        return Ok(());
+    }
+    text.reserve(TEXT_ROOM)
+}
 
 /// Reads to the end of the input, and returns all bytes that its reads returned. For a reader that never ends it
 /// returns `NoMemory`, as each read makes the text longer.
@@ -40,6 +56,7 @@ pub fn read_whole<R: Input>(alloc: Global, reader: &mut R) -> Result<Vec<u8>, Re
         if count == 0 {
             return Ok(text);
         }
+        make_room(&mut text).map_err(|_| ReadStop::NoMemory)?;
         text.extend_from_slice(&chunk[..count])
             .map_err(|_| ReadStop::NoMemory)?;
     }
