@@ -1,7 +1,7 @@
 -- The groups at the start of a text.
 use Rattle.std.proofs.Common.{fold, ◌/◌, ◌%◌, ◌≡◌, ℕ, ◌+◌, ◌-◌, ◌*◌, ◌^◌, ◌<◌, ◌&&◌, ◌==◌, Bool, true, false, List, [], ◌∷◌, ◌++◌, Option, Some, None, length, ap, sym, refl, ◌∙◌, arith, inl, inr, nat_le, option_map, if◌then◌else◌}
 use Rattle.std.specs.List.{list_all, list_any, slice_split}
-use Rattle.std.proofs.lemmas.Bool.{and_from, and_right, cond-true, cond-false, cases_Bool, eq-eqb, true_from_ne_false}
+use Rattle.std.proofs.lemmas.Bool.{and_from, and_right, cond-false, cases_Bool, true_from_ne_false}
 use Rattle.std.proofs.lemmas.List.{append_assoc, append-nil, length-append}
 use Rattle.std.proofs.lemmas.List.Folds.{list_all-append}
 use Rattle.std.proofs.lemmas.List.Splits.{slice_split_at, slice_split_none, length-slice_split}
@@ -10,10 +10,10 @@ use Rattle.std.specs.Char.{is_ascii_hexdigit}
 use Rattle.prefix_keys.specs.Text.{around_gap, around_address, groups_of_pieces, hex_digit_value, hex_group, side_groups, dotted_address, last_groups, text_groups, colon_address}
 use Rattle.prefix_keys.proofs.ColonPieces.{is_colon, groups_of-more, more-next, onto_groups}
 use Rattle.prefix_keys.proofs.Gaps.{address-around}
-use Rattle.prefix_keys.proofs.GroupNumbers.{gap-some, whole-some, whole_address}
+use Rattle.prefix_keys.proofs.GroupNumbers.{gap-some, whole_address}
 use Rattle.prefix_keys.proofs.Bytes.{all-weaker, apart, each-fails, lacks, none-passes}
 use Rattle.prefix_keys.proofs.Printed.{Lacks}
-use Rattle.prefix_keys.proofs.PrintedGaps.{around-piece, following-following, following-nil, colon-begins, skip}
+use Rattle.prefix_keys.proofs.PrintedGaps.{around-piece, following-following, colon-begins, skip}
 
 -- a group consists of one or more hexadecimal digits
 pub group-digits : (text : List ℕ) (g : ℕ) → hex_group text ≡ Some g → list_all is_ascii_hexdigit text ≡ true
@@ -60,15 +60,6 @@ pub record HasRead (text rest : List ℕ) (count number : ℕ) : Type 0 where
   pub bytes : list_all is_colon_byte done ≡ true
   pub groups : (dotted : Bool) (t : List ℕ) → more_groups 0 0 (text_groups dotted (done ++ t)) ≡ more_groups count number (text_groups dotted t)
   pub gap : (f back : List ℕ) → 0 < length f → Lacks 58 f → around_gap (done ++ (f ++ back)) ≡ following done (around_gap (f ++ back))
-
-pub read-none : (text : List ℕ) → HasRead text text 0 0
-read-none text = record {
-  done = [];
-  whole = refl;
-  bytes = refl;
-  groups = λ dotted t. refl;
-  gap = λ f back some lacks. following-nil (around_gap (f ++ back));
-}
 
 group-bytes : (f : List ℕ) (g : ℕ) → hex_group f ≡ Some g → list_all is_colon_byte f ≡ true
 group-bytes f g reads = all-weaker is_ascii_hexdigit is_colon_byte (λ b digit. rw digit refl) f (group-digits f g reads)
@@ -158,20 +149,6 @@ colon-gap text rest back left c n d m value one gap two joined =
           address-around front one.front two.front (sym around)
           ∙ gap-some (side_groups false one.front) (side_groups true two.front) c n d m (one.groups false) (two.groups true)
           ∙ sym joined;
-    }
-
-pub colon-whole : (text rest : List ℕ) (c n : ℕ) → BeginsWithSide text rest c n → c ≡ 8 → BeginsWith is_colon_byte colon_address text rest n
-colon-whole text rest c n side eight =
-    let front : List ℕ = side.front in
-    let none : around_gap front ≡ None = ap around_gap (sym (append-nil front)) ∙ side.gap [] in
-    record {
-      front = front;
-      whole = side.whole;
-      bytes = side.bytes;
-      reads =
-          ap (around_address front) none
-          ∙ whole-some (side_groups true front) c n (side.groups true)
-          ∙ cond-true (c == 8) (Some n) None (eq-eqb c 8 eight);
     }
 
 -- a text without a colon is not an IPv6 address, since it has at most two groups

@@ -1,4 +1,4 @@
-use Rattle.prefix_keys.proofs.LeadingGroups.{colon-gap, colon-whole}
+use Rattle.prefix_keys.proofs.LeadingGroups.{colon-gap}
 use Rattle.prefix_keys.proofs.text.colon.leading_colon.Goals as goal
 
 pub returns-in_ok-join-in-Some : goal.returns-in_ok-join-in-Some
@@ -6,7 +6,3 @@ returns-in_ok-join-in-Some c =
     colon-gap c.args.text.now c.in_ok-front.rest.now c.in-Some.following.now c.in_ok-back-in-Some.rest.now
     c.in_ok-front.front.count c.in_ok-front.front.number c.in_ok-back-in-Some.back.count c.in_ok-back-in-Some.back.number c.in_ok-join-in-Some.field-0
     c.in_ok-front.ensures c.in-Some.ensures c.in_ok-back-in-Some.ensures c.in_ok-join-in-Some.ensures
-
-pub returns-in-None : goal.returns-in-None
-returns-in-None c =
-    colon-whole c.args.text.now c.in_ok-front.rest.now c.in_ok-front.front.count c.in_ok-front.front.number c.in_ok-front.ensures c.if-front-eq8.true

@@ -1,13 +1,5 @@
-use Rattle.std.proofs.Common.{arith}
-use Rattle.prefix_keys.proofs.LeadingGroups.{read-none, read-more, read-last}
+use Rattle.prefix_keys.proofs.LeadingGroups.{read-more, read-last}
 use Rattle.prefix_keys.proofs.text.colon.leading_groups.Goals as goal
-
-pub loop-group-init : goal.loop-group-init
-loop-group-init c = record {
-  count_in_range = omega arith;
-  in_range = omega arith;
-  read = read-none c.args.text.now;
-}
 
 pub loop-group-preserved : goal.loop-group-preserved
 loop-group-preserved c = record {
