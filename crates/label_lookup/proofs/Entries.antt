@@ -3,8 +3,8 @@ use Rattle.std.proofs.Common.{◌≡◌, ◌∙◌, ℕ, suc, ◌+◌, ◌<◌, 
 use Rattle.std.specs.Option.{ForSome}
 use Rattle.std.specs.Prelude.{IsSomeAnd, MatchOption, take}
 use Rattle.std.proofs.Math.Seq.{take-length}
-use Rattle.std.proofs.lemmas.List.Elements.{All-contains, All-more, All-nil, All-weaker, Contains-append_right}
-use Rattle.std.proofs.lemmas.Option.{get_or_from_slice_get, none-some, same_Some, slice_get_within}
+use Rattle.std.proofs.lemmas.List.Elements.{All-contains, All-more, All-weaker, Contains-append_right}
+use Rattle.std.proofs.lemmas.Option.{get_or_from_slice_get, same_Some, slice_get_within}
 use Rattle.prefix_keys.specs.Block.{block_number, width_of}
 use Rattle.prefix_keys.specs.Covers.{IsInBlock}
 use Rattle.prefix_keys.specs.declared.version.Version.{Version}
@@ -38,9 +38,6 @@ IsNoLonger l a longest e = CoversEntry l a e → IsSomeAnd longest (λ d. e.bloc
 pub record IsLongest (l : PrefixList) (a count : ℕ) (longest : Option Entry) : Type 0 where
   pub listed : ForSome longest (λ e. Contains l.entries e × CoversEntry l a e)
   pub most : All (IsNoLonger l a longest) (take count l.entries)
-
-pub none_seen : (l : PrefixList) (a : ℕ) → IsLongest l a 0 None
-none_seen l a = record { listed = λ e is. absurd (none-some e is); most = All-nil (IsNoLonger l a None) }
 
 -- once all entries are looked at
 pub all_seen : (l : PrefixList) (a count : ℕ) (longest : Option Entry) → IsLongest l a count longest → count ≡ length l.entries

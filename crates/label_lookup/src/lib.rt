@@ -25,6 +25,7 @@ mod list_scan;
 mod row;
 mod scan;
 mod stretch_index;
+mod texts;
 mod trie_labeller;
 
 pub use labeller::Labeller;

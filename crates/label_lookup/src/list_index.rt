@@ -2,6 +2,7 @@ ghost use Rattle.std.specs.Prelude.{◌≡◌, IfOk};
 ghost use Rattle.pmap_model.specs.PrefixList.{list_of};
 
 use crate::labeller::Labeller;
+use crate::texts::text_at;
 use pmap_model::PrefixList;
 use pmap_stretches::{Runs, Stretches};
 use prefix_keys::{Addr, Version};
@@ -58,7 +59,6 @@ impl<'a> Labeller for ListIndex<'a> {
     fn label_of(&self, addr: Addr) -> Option<&[u8]> {
         self.stretches.laws();
         let index = self.stretches.find_near(0, addr.value);
-        let id = self.stretches.label(index)?;
-        self.list.labels.text(id)
+        text_at(&self.list.labels, &self.stretches, index)
     }
 }

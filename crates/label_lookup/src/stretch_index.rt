@@ -6,6 +6,7 @@ ghost use Rattle.pmap_stretches.specs.Stretches.{HoldsAddress, first_at};
 ghost use Rattle.label_lookup.specs.Labelling.{labelling_of_list, labelling_of_map, AreTops, labelling_of_stretches};
 
 use crate::labeller::Labeller;
+use crate::texts::text_at;
 use pmap_model::{Labels, MapText, PrefixList};
 use pmap_stretches::{Runs, Stretches};
 use prefix_keys::{Addr, Version};
@@ -81,8 +82,7 @@ impl<'a> Labeller for StretchIndex<'a> {
         let from = self.tops[block];
         let to = self.tops[block + 1];
         let index = self.stretches.find(from, to, addr.value);
-        let id = self.stretches.label(index)?;
-        self.labels.text(id)
+        text_at(self.labels, &self.stretches, index)
     }
 }
 

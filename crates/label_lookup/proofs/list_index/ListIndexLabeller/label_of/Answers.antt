@@ -1,4 +1,4 @@
-use Rattle.std.proofs.Common.{◌∙◌, ◌^◌, ◌<◌, ap, option_and_then, option_map, slice_get, subst, sym}
+use Rattle.std.proofs.Common.{◌∙◌, ◌^◌, ◌<◌, ap, subst, sym}
 use Rattle.prefix_keys.specs.Block.{width_of}
 use Rattle.prefix_keys.specs.declared.version.Version.{Version}
 use Rattle.pmap_model.specs.ListModel.{ListModel, list_label}
@@ -22,24 +22,7 @@ returns-clause-value c =
     let of_runs = of_list ∙ sym (ap (λ (k : Labelling). k.version) c.self.invariant) in
     let below : a < 2 ^ width_of l.version = subst (λ (v : Version). a < 2 ^ width_of v) of_list c.args.addr.in_range in
     let inside : a < 2 ^ width_of m.stretches.version = subst (λ (v : Version). a < 2 ^ width_of v) of_runs c.args.addr.in_range in
-    c.text.ensures.value
-    ∙ ap (option_and_then (λ id. slice_get m.table id.0)) (sym c.in_ok-id.was ∙ c.label.ensures)
-    ∙ label_found m c.laws.ensures.every a c.find_near-index.result c.find_near-index.ensures.holds inside
-    ∙ ap (λ (k : Labelling). k.label a) c.self.invariant
-    ∙ sym (same_at_addresses l.version (list_label l) a below)
-    ∙ ap (λ (m : ListModel). list_label m a) c.self.view_is
-
-pub returns-in_err-id-clause-value : goal.returns-in_err-id-clause-value
-returns-in_err-id-clause-value c =
-    let l = list_of c.self.inside.list.now in
-    let m : StretchModel = record { table = c.self.inside.list.now.labels; stretches = c.self.inside.stretches } in
-    let a = c.args.addr.value in
-    let of_list = c.requires ∙ sym (ap (λ (m : ListModel). m.version) c.self.view_is) in
-    let of_runs = of_list ∙ sym (ap (λ (k : Labelling). k.version) c.self.invariant) in
-    let below : a < 2 ^ width_of l.version = subst (λ (v : Version). a < 2 ^ width_of v) of_list c.args.addr.in_range in
-    let inside : a < 2 ^ width_of m.stretches.version = subst (λ (v : Version). a < 2 ^ width_of v) of_runs c.args.addr.in_range in
-    ap (option_map (λ t. t.now)) c.from_residual.ensures
-    ∙ ap (option_and_then (λ id. slice_get m.table id.0)) (sym c.in_err-id.was ∙ c.label.ensures)
+    c.text_at.ensures.value
     ∙ label_found m c.laws.ensures.every a c.find_near-index.result c.find_near-index.ensures.holds inside
     ∙ ap (λ (k : Labelling). k.label a) c.self.invariant
     ∙ sym (same_at_addresses l.version (list_label l) a below)

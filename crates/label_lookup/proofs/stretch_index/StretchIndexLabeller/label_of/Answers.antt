@@ -1,4 +1,4 @@
-use Rattle.std.proofs.Common.{◌≡◌, ◌∙◌, ℕ, ◌^◌, ◌<◌, ap, option_and_then, option_map, slice_get, sym}
+use Rattle.std.proofs.Common.{◌≡◌, ◌∙◌, ℕ, ◌^◌, ◌<◌, ap, sym}
 use Rattle.prefix_keys.specs.Block.{width_of}
 use Rattle.prefix_keys.specs.declared.version.Version.{Version}
 use Rattle.pmap_stretches.specs.Stretches.{text_held}
@@ -41,16 +41,6 @@ pub returns-clause-value : goal.returns-clause-value
 returns-clause-value c =
     let m : StretchModel = record { table = c.self.inside.labels.now; stretches = c.self.inside.stretches } in
     let same = same_version c.args.self.now m c.args.addr.version c.self.view_is c.requires in
-    c.text.ensures.value
-    ∙ ap (option_and_then (λ id. slice_get m.table id.0)) (sym c.in_ok-id.was ∙ c.label.ensures)
-    ∙ label_found m c.laws.ensures.every c.args.addr.value c.find-index.result c.find-index.ensures.holds (fits_version _ _ _ same c.args.addr.in_range)
-    ∙ ap (λ (x : StretchModel). (labelling x.stretches.version (text_held x.table x.stretches)).label c.args.addr.value) c.self.view_is
-
-pub returns-in_err-id-clause-value : goal.returns-in_err-id-clause-value
-returns-in_err-id-clause-value c =
-    let m : StretchModel = record { table = c.self.inside.labels.now; stretches = c.self.inside.stretches } in
-    let same = same_version c.args.self.now m c.args.addr.version c.self.view_is c.requires in
-    ap (option_map (λ t. t.now)) c.from_residual.ensures
-    ∙ ap (option_and_then (λ id. slice_get m.table id.0)) (sym c.in_err-id.was ∙ c.label.ensures)
+    c.text_at.ensures.value
     ∙ label_found m c.laws.ensures.every c.args.addr.value c.find-index.result c.find-index.ensures.holds (fits_version _ _ _ same c.args.addr.in_range)
     ∙ ap (λ (x : StretchModel). (labelling x.stretches.version (text_held x.table x.stretches)).label c.args.addr.value) c.self.view_is
