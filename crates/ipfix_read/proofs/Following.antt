@@ -161,7 +161,7 @@ module _ (few more : InForce) (extends : Extends few more) (domain : ℕ) where
   same_set : (here there : ℕ) (bytes : List ℕ) (set : Set) (after : List ℕ) → lacks_template set ≡ false
       → set_next few domain here bytes ≡ Ok (set, after) → set_next more domain there bytes ≡ Ok (set, after)
   same_set here there bytes set after found e =
-      by (nat_lt (length bytes) 4 || (nat_lt (written_length bytes) 4 || nat_lt (length bytes) (written_length bytes))) e
+      by (nat_lt (written_length bytes) 4 || nat_lt (length bytes) (written_length bytes)) e
     where
       by : (b : Bool) → cond b (Err (record { kind = BadSetLength; offset = here })) (First few domain here bytes) ≡ Ok (set, after)
           → cond b (Err (record { kind = BadSetLength; offset = there })) (First more domain there bytes) ≡ Ok (set, after)

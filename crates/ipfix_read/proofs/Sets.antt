@@ -58,18 +58,18 @@ result_mapped (Err fault) f y e = absurd (cc)
 
 module _ (templates : InForce) (domain offset : ℕ) (bytes : List ℕ) where
   -- the length in the header cuts off a set
-  pub set_read : (size id : ℕ) (front after : List ℕ) (read : Result Set ReadFault) → size ≡ written_length bytes → 4 ≤ length bytes → 4 ≤ size → size ≤ length bytes
+  pub set_read : (size id : ℕ) (front after : List ℕ) (read : Result Set ReadFault) → size ≡ written_length bytes → 4 ≤ size → size ≤ length bytes
       → front ≡ take size bytes → after ≡ drop size bytes → id ≡ big_number 2 bytes
       → content_reading templates domain id (offset + 4) (take (length front - 4) (drop 4 front)) ≡ read
       → set_next templates domain offset bytes ≡ result_map_both (λ set. (set, after)) (λ fault. fault) read
-  set_read size id front after read is long least within front_is after_is id_is e =
+  set_read size id front after read is least within front_is after_is id_is e =
       let content : drop 4 (take (written_length bytes) bytes) ≡ take (length front - 4) (drop 4 front) =
       ap (λ (n : ℕ). drop 4 (take n bytes)) (sym is) ∙ ap (drop 4) (sym front_is) ∙ sym (from_place 4 front) in
       let there : content_reading templates domain (big_number 2 bytes) (offset + 4) (drop 4 (take (written_length bytes) bytes)) ≡ read =
       ap (λ (n : ℕ). content_reading templates domain n (offset + 4) (drop 4 (take (written_length bytes) bytes))) (sym id_is)
       ∙ ap (λ (xs : List ℕ). content_reading templates domain id (offset + 4) xs) content ∙ e in
       let following : after ≡ drop (written_length bytes) bytes = after_is ∙ ap (λ (n : ℕ). drop n bytes) is in
-      rw (le-ltb (length bytes) 4 long, le-ltb (written_length bytes) 4 (omega (arith, is, least)), le-ltb (length bytes) (written_length bytes) (omega (arith, is, within)), there, following) refl
+      rw (le-ltb (written_length bytes) 4 (omega (arith, is, least)), le-ltb (length bytes) (written_length bytes) (omega (arith, is, within)), there, following) refl
 
 set_smaller : (templates : InForce) (domain offset : ℕ) (bytes : List ℕ) (set : Set) (after : List ℕ) → set_next templates domain offset bytes ≡ Ok (set, after) → length after < length bytes
 set_smaller templates domain offset bytes set after e = let rest = length-drop (written_length bytes) bytes in grind (arith, nat_tests, common_steps)

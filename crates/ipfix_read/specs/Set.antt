@@ -31,16 +31,13 @@ abbrev pub template_kind : ℕ → Option Kind
 template_kind id =
     if id == set_id Flow then Some Flow else (if id == set_id Options then Some Options else None)
 
--- the fault of a template set as a fault of the File; the set's records begin at this offset
-abbrev pub in_file : ℕ → TemplateFaultKind × ℕ → ReadFault
-in_file base fault = record { kind = BadTemplate fault.0; offset = base + fault.1 }
-
 -- The content of a set with this ID, under the templates in force, or the first fault. Its bytes begin at this offset. It
 -- consists of templates, or of records under the template in force. It is skipped if its ID has no meaning or no template
 -- in force.
 abbrev pub content_reading : InForce → ℕ → ℕ → ℕ → List ℕ → Result Set ReadFault
 content_reading templates domain id offset bytes =
-    option_map_or (λ kind. result_map_both (Templates kind) (in_file offset)
+    option_map_or (λ kind. result_map_both (Templates kind)
+    (λ fault. record { kind = BadTemplate fault.0; offset = offset + fault.1 })
     (template_set_reading kind bytes)) (template_kind id)
     (option_map_or (λ t. result_map_both (Values t.kind) (λ fault. fault)
     (data_set_reading t offset bytes)) (if nat_lt id 256 then None else templates domain id)
@@ -55,7 +52,7 @@ written_length bytes = big_number 2 (drop 2 bytes)
 abbrev pub set_next : InForce → ℕ → ℕ → List ℕ → Result (Set × List ℕ) ReadFault
 set_next templates domain offset bytes =
     let size = written_length bytes in
-    if nat_lt (length bytes) 4 || (nat_lt size 4 || nat_lt (length bytes) size)
+    if nat_lt size 4 || nat_lt (length bytes) size
     then Err (record { kind = BadSetLength; offset = offset })
     else result_map_both (λ set. (set, drop size bytes)) (λ fault. fault)
     (content_reading templates domain (big_number 2 bytes) (offset + 4) (drop 4 (take size bytes)))
@@ -67,6 +64,10 @@ sets_reading templates domain offset bytes =
     templates offset bytes
 
 -- Below: only contracts of parts and proofs use these; no promise of the program rests on them.
+
+-- the fault of a template set as a fault of the File; the set's records begin at this offset
+abbrev pub in_file : ℕ → TemplateFaultKind × ℕ → ReadFault
+in_file base fault = record { kind = BadTemplate fault.0; offset = base + fault.1 }
 
 -- the result of reading an item under a table, and the table after the item
 abbrev pub ReadsUnder : {A : Type 0} → TemplateTable → TemplateTable → (InForce → A → InForce) → Result A ReadFault → Result A ReadFault → Type 0

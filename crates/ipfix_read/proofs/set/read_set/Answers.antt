@@ -14,6 +14,6 @@ returns-clause-read c =
     let s = (goal.at.returns-clause-read c).After-split_at in
     let read = c.in_ok-set.ensures.read in (
       set_read (template_at c.args.table.now) c.args.domain c.args.base c.args.bytes.now c.from-length.result c.read_u16-id.result c.split_at.result.0.now c.split_at.result.1.now _ (size s)
-          c.if-bytes-lt-SET_HEADER.false c.if-length-lt-SET_HEADER.false c.if-bytes-length.false c.split_at.ensures.front c.split_at.ensures.back c.read_u16-id.ensures read.0,
+          c.if-length-lt-SET_HEADER.false c.if-bytes-length.false c.split_at.ensures.front c.split_at.ensures.back c.read_u16-id.ensures read.0,
       read.1,
     )
