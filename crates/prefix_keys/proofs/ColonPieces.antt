@@ -3,8 +3,8 @@ use Rattle.std.specs.List.{slice_split, before_first, after_first, position_or_l
 use Rattle.std.proofs.lemmas.List.{length-take, take_all}
 use Rattle.std.proofs.lemmas.List.Splits.{slice_split_first, length-slice_split}
 use Rattle.std.proofs.lemmas.Bool.Decides.{nat_tests}
-use Rattle.prefix_keys.specs.Text.{groups_of_pieces, hex_group, last_groups, text_groups}
-use Rattle.prefix_keys.specs.Inner.{more_groups}
+use Rattle.prefix_keys.specs.Text.{groups_of_pieces, hex_group, last_groups}
+use Rattle.prefix_keys.specs.Inner.{more_groups, piece_groups}
 use Rattle.prefix_keys.proofs.Pieces.{split-whole}
 
 -- The groups of the pieces of a text between colons, one piece after another.
@@ -19,9 +19,9 @@ no_colon text h = omega (arith, length-take (position_or_len is_colon text) text
 some_colon : (text : List ℕ) → length (before_first is_colon text) ≢ length text → position_or_len is_colon text < length text
 some_colon text h = omega (arith, length-take (position_or_len is_colon text) text)
 
-pub text_groups-last : (dotted : Bool) (text piece : List ℕ) → piece ≡ before_first is_colon text →
-    length piece ≡ length text → text_groups dotted text ≡ last_groups dotted piece
-text_groups-last dotted text piece front h =
+pub piece_groups-last : (dotted : Bool) (text piece : List ℕ) → piece ≡ before_first is_colon text →
+    length piece ≡ length text → piece_groups dotted text ≡ last_groups dotted piece
+piece_groups-last dotted text piece front h =
     let none = no_colon text (ap (λ p. length p) (sym front) ∙ h) in
     ap (groups_of_pieces dotted) (split-whole is_colon text none)
     ∙ ap (last_groups dotted) (sym (front ∙ take_all (position_or_len is_colon text) text none))
@@ -35,10 +35,10 @@ pub groups_of-more : (dotted : Bool) (piece : List ℕ) (pieces : List (List ℕ
 groups_of-more dotted piece [] h = absurd (omega arith)
 groups_of-more dotted piece (next ∷ pieces) h = refl
 
-pub text_groups-more : (dotted : Bool) (text piece following : List ℕ) → piece ≡ before_first is_colon text →
+pub piece_groups-more : (dotted : Bool) (text piece following : List ℕ) → piece ≡ before_first is_colon text →
     following ≡ after_first is_colon text → length piece ≢ length text →
-    text_groups dotted text ≡ onto_groups (hex_group piece) (text_groups dotted following)
-text_groups-more dotted text piece following front back h =
+    piece_groups dotted text ≡ onto_groups (hex_group piece) (piece_groups dotted following)
+piece_groups-more dotted text piece following front back h =
     rw (front, back)
     (ap (groups_of_pieces dotted) (slice_split_first is_colon text 0 (some_colon text (rw front at h)))
     ∙ groups_of-more dotted (before_first is_colon text) (slice_split is_colon (after_first is_colon text))
@@ -58,24 +58,24 @@ more-full c n g (Some groups) h = grind (arith, nat_tests)
 -- the groups of a text after other groups, by its first piece
 pub turn-none : (dotted : Bool) (text piece following : List ℕ) (c n : ℕ) → piece ≡ before_first is_colon text →
     following ≡ after_first is_colon text → length piece ≢ length text → None ≡ hex_group piece →
-    more_groups c n (text_groups dotted text) ≡ None
+    more_groups c n (piece_groups dotted text) ≡ None
 turn-none dotted text piece following c n front back h none =
-    ap (more_groups c n) (text_groups-more dotted text piece following front back h)
-    ∙ ap (λ x. more_groups c n (onto_groups x (text_groups dotted following))) (sym none)
+    ap (more_groups c n) (piece_groups-more dotted text piece following front back h)
+    ∙ ap (λ x. more_groups c n (onto_groups x (piece_groups dotted following))) (sym none)
 
 pub turn-full : (dotted : Bool) (text piece following : List ℕ) (c n g : ℕ) → piece ≡ before_first is_colon text →
     following ≡ after_first is_colon text → length piece ≢ length text → Some g ≡ hex_group piece →
-    None ≡ more_groups c n (Some (g ∷ [])) → more_groups c n (text_groups dotted text) ≡ None
+    None ≡ more_groups c n (Some (g ∷ [])) → more_groups c n (piece_groups dotted text) ≡ None
 turn-full dotted text piece following c n g front back h some full =
-    ap (more_groups c n) (text_groups-more dotted text piece following front back h)
-    ∙ ap (λ x. more_groups c n (onto_groups x (text_groups dotted following))) (sym some)
-    ∙ more-full c n g (text_groups dotted following) full
+    ap (more_groups c n) (piece_groups-more dotted text piece following front back h)
+    ∙ ap (λ x. more_groups c n (onto_groups x (piece_groups dotted following))) (sym some)
+    ∙ more-full c n g (piece_groups dotted following) full
 
 pub turn-next : (dotted : Bool) (text piece following : List ℕ) (c n g c' n' : ℕ) → piece ≡ before_first is_colon text →
     following ≡ after_first is_colon text → length piece ≢ length text → Some g ≡ hex_group piece →
     Some (c', n') ≡ more_groups c n (Some (g ∷ [])) →
-    more_groups c n (text_groups dotted text) ≡ more_groups c' n' (text_groups dotted following)
+    more_groups c n (piece_groups dotted text) ≡ more_groups c' n' (piece_groups dotted following)
 turn-next dotted text piece following c n g c' n' front back h some next =
-    ap (more_groups c n) (text_groups-more dotted text piece following front back h)
-    ∙ ap (λ x. more_groups c n (onto_groups x (text_groups dotted following))) (sym some)
-    ∙ more-next c n g c' n' (text_groups dotted following) next
+    ap (more_groups c n) (piece_groups-more dotted text piece following front back h)
+    ∙ ap (λ x. more_groups c n (onto_groups x (piece_groups dotted following))) (sym some)
+    ∙ more-next c n g c' n' (piece_groups dotted following) next

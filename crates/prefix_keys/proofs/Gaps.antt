@@ -1,6 +1,6 @@
 use Rattle.std.proofs.Common.{ℕ, zero, suc, ◌≡◌, ◌<◌, ◌==◌, ◌&&◌, ◌∙◌, Bool, true, false, List, [], ◌∷◌, Option, Some, None, length, get_or, take, drop, ap, sym, refl, arith, option_map, if◌then◌else◌}
 use Rattle.std.proofs.lemmas.Bool.{false≢true}
-use Rattle.prefix_keys.specs.Text.{around_gap, around_address, gap_address, side_groups, colon_address}
+use Rattle.prefix_keys.specs.Text.{around_gap, around_address, gap_address, text_groups, colon_address}
 
 -- The first `::` of a text.
 
@@ -40,5 +40,5 @@ no_gap (b ∷ d ∷ text) none =
 
 -- the address of a text with a `::`
 pub address-around : (text front back : List ℕ) → Some (front, back) ≡ around_gap text →
-    colon_address text ≡ gap_address (side_groups false front) (side_groups true back)
+    colon_address text ≡ gap_address (text_groups false front) (text_groups true back)
 address-around text front back e = ap (around_address text) (sym e)

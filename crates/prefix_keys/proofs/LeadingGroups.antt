@@ -5,9 +5,9 @@ use Rattle.std.proofs.lemmas.Bool.{and_from, and_right, cond-false, cases_Bool, 
 use Rattle.std.proofs.lemmas.List.{append_assoc, append-nil, length-append}
 use Rattle.std.proofs.lemmas.List.Folds.{list_all-append}
 use Rattle.std.proofs.lemmas.List.Splits.{slice_split_at, slice_split_none, length-slice_split}
-use Rattle.prefix_keys.specs.Inner.{BeginsWith, BeginsWithSide, following, is_colon_byte, more_groups}
+use Rattle.prefix_keys.specs.Inner.{BeginsWith, BeginsWithSide, following, is_colon_byte, more_groups, piece_groups}
 use Rattle.std.specs.Char.{is_ascii_hexdigit}
-use Rattle.prefix_keys.specs.Text.{around_gap, around_address, groups_of_pieces, hex_digit_value, hex_group, side_groups, dotted_address, last_groups, text_groups, colon_address}
+use Rattle.prefix_keys.specs.Text.{around_gap, around_address, groups_of_pieces, hex_digit_value, hex_group, text_groups, dotted_address, last_groups, colon_address}
 use Rattle.prefix_keys.proofs.ColonPieces.{is_colon, groups_of-more, more-next, onto_groups}
 use Rattle.prefix_keys.proofs.Gaps.{address-around}
 use Rattle.prefix_keys.proofs.GroupNumbers.{gap-some, whole_address}
@@ -34,7 +34,7 @@ group-lacks : (c : ℕ) → is_ascii_hexdigit c ≡ false → (text : List ℕ) 
 group-lacks c other text g reads = none-passes is_ascii_hexdigit (λ b. b == c) (apart is_ascii_hexdigit c other) text (group-digits text g reads)
 
 -- a group alone, and one before a colon
-pub groups-last : (dotted : Bool) (f : List ℕ) (g : ℕ) → hex_group f ≡ Some g → text_groups dotted f ≡ Some (g ∷ [])
+pub groups-last : (dotted : Bool) (f : List ℕ) (g : ℕ) → hex_group f ≡ Some g → piece_groups dotted f ≡ Some (g ∷ [])
 groups-last dotted f g reads =
     ap (groups_of_pieces dotted) (slice_split_none is_colon f (group-lacks 58 refl f g reads)) ∙ last dotted
   where
@@ -46,11 +46,11 @@ groups-last dotted f g reads =
     last false = ap (option_map (λ group. group ∷ [])) reads
 
 pub groups-next : (dotted : Bool) (f t : List ℕ) (g : ℕ) → hex_group f ≡ Some g
-    → text_groups dotted (f ++ 58 ∷ t) ≡ onto_groups (Some g) (text_groups dotted t)
+    → piece_groups dotted (f ++ 58 ∷ t) ≡ onto_groups (Some g) (piece_groups dotted t)
 groups-next dotted f t g reads =
     ap (groups_of_pieces dotted) (slice_split_at is_colon f 58 t (group-lacks 58 refl f g reads) refl)
     ∙ groups_of-more dotted f (slice_split is_colon t) (omega (arith, length-slice_split is_colon t))
-    ∙ ap (λ x. onto_groups x (text_groups dotted t)) reads
+    ∙ ap (λ x. onto_groups x (piece_groups dotted t)) reads
 
 -- What was read of the groups at the start of a text: groups with a colon after each, with this count and this number,
 -- and then the rest.
@@ -58,7 +58,7 @@ pub record HasRead (text rest : List ℕ) (count number : ℕ) : Type 0 where
   pub done : List ℕ
   pub whole : text ≡ done ++ rest
   pub bytes : list_all is_colon_byte done ≡ true
-  pub groups : (dotted : Bool) (t : List ℕ) → more_groups 0 0 (text_groups dotted (done ++ t)) ≡ more_groups count number (text_groups dotted t)
+  pub groups : (dotted : Bool) (t : List ℕ) → more_groups 0 0 (piece_groups dotted (done ++ t)) ≡ more_groups count number (piece_groups dotted t)
   pub gap : (f back : List ℕ) → 0 < length f → Lacks 58 f → around_gap (done ++ (f ++ back)) ≡ following done (around_gap (f ++ back))
 
 group-bytes : (f : List ℕ) (g : ℕ) → hex_group f ≡ Some g → list_all is_colon_byte f ≡ true
@@ -70,7 +70,7 @@ colon-front None = refl
 colon-front (Some sides) = refl
 
 -- the groups of a side that isn't empty are those of its text
-pub side-some : (dotted : Bool) (text : List ℕ) → 0 < length text → side_groups dotted text ≡ text_groups dotted text
+pub side-some : (dotted : Bool) (text : List ℕ) → 0 < length text → text_groups dotted text ≡ piece_groups dotted text
 side-some dotted [] some = absurd (omega arith)
 side-some dotted (b ∷ text) some = refl
 
@@ -91,10 +91,10 @@ read-more text rest following-group next c n g c' n' has group colon more =
           list_all-append is_colon_byte has.done (f ++ 58 ∷ [])
           ∙ and_from _ _ has.bytes (list_all-append is_colon_byte f (58 ∷ []) ∙ and_from _ _ (group-bytes f g group.reads) refl);
       groups = λ dotted t.
-          ap (λ x. more_groups 0 0 (text_groups dotted x)) (moved t)
+          ap (λ x. more_groups 0 0 (piece_groups dotted x)) (moved t)
           ∙ has.groups dotted (f ++ 58 ∷ t)
           ∙ ap (more_groups c n) (groups-next dotted f t g group.reads)
-          ∙ more-next c n g c' n' (text_groups dotted t) more;
+          ∙ more-next c n g c' n' (piece_groups dotted t) more;
       gap = λ f' back some' lacks'.
           let t : List ℕ = f' ++ back in
           ap around_gap (moved t)
@@ -147,7 +147,7 @@ colon-gap text rest back left c n d m value one gap two joined =
       bytes = list_all-append is_colon_byte one.front (58 ∷ 58 ∷ two.front) ∙ and_from _ _ one.bytes two.bytes;
       reads =
           address-around front one.front two.front (sym around)
-          ∙ gap-some (side_groups false one.front) (side_groups true two.front) c n d m (one.groups false) (two.groups true)
+          ∙ gap-some (text_groups false one.front) (text_groups true two.front) c n d m (one.groups false) (two.groups true)
           ∙ sym joined;
     }
 

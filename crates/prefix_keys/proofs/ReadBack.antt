@@ -12,7 +12,8 @@ use Rattle.prefix_keys.specs.declared.text.BlockFault.TheVariants.{BadAddress, B
 use Rattle.std.proofs.Math.Nat.{div-add-mod'}
 use Rattle.std.proofs.lemmas.List.Sums.{position_or_len_is}
 use Rattle.prefix_keys.specs.Print.{address_text, joined_text, longest_run, shortened_text, AddressIsReadBack, BlockIsReadBack, IsZeroRun, address_groups, address_groups_text}
-use Rattle.prefix_keys.specs.Text.{groups_of_pieces, side_groups, groups_number, gap_address, around_address, hex_group, dotted_address, decimal_number, four_bytes, address_of, AddressOf, BlockOf, last_groups, text_groups, colon_address}
+use Rattle.prefix_keys.specs.Text.{groups_of_pieces, text_groups, groups_number, gap_address, around_address, hex_group, dotted_address, decimal_number, four_bytes, address_of, AddressOf, BlockOf, last_groups, colon_address}
+use Rattle.prefix_keys.specs.Inner.{piece_groups}
 use Rattle.prefix_keys.proofs.Pieces.{of_all}
 use Rattle.prefix_keys.proofs.Printed.{Lacks, Lacks-digits, no_colon, no_point, no_slash, split-joined, joined-some, hex_group-digits, short_number-decimal, Lacks-joined}
 use Rattle.prefix_keys.proofs.ColonPieces.{onto_groups}
@@ -39,17 +40,17 @@ groups_of-hex dotted group (next ∷ groups) all =
     ap (λ o. onto_groups o (groups_of_pieces dotted (map hex (next ∷ groups)))) (hex_group-digits group (All-head IsGroup group (next ∷ groups) all))
     ∙ ap (onto_groups (Some group)) (groups_of-hex dotted next groups (All-tail IsGroup group (next ∷ groups) all))
 
-text_groups-printed : (dotted : Bool) (group : ℕ) (groups : List ℕ) → All IsGroup (group ∷ groups)
-    → text_groups dotted (address_groups_text (group ∷ groups)) ≡ Some (group ∷ groups)
-text_groups-printed dotted group groups all =
+piece_groups-printed : (dotted : Bool) (group : ℕ) (groups : List ℕ) → All IsGroup (group ∷ groups)
+    → piece_groups dotted (address_groups_text (group ∷ groups)) ≡ Some (group ∷ groups)
+piece_groups-printed dotted group groups all =
     ap (groups_of_pieces dotted) (split-joined 16 58 no_colon (omega arith) (omega arith) group groups all)
     ∙ groups_of-hex dotted group groups all
 
-side_groups-printed : (dotted : Bool) (groups : List ℕ) → All IsGroup groups → side_groups dotted (address_groups_text groups) ≡ Some groups
-side_groups-printed dotted [] all = refl
-side_groups-printed dotted (group ∷ groups) all =
+text_groups-printed : (dotted : Bool) (groups : List ℕ) → All IsGroup groups → text_groups dotted (address_groups_text groups) ≡ Some groups
+text_groups-printed dotted [] all = refl
+text_groups-printed dotted (group ∷ groups) all =
     side-some dotted (address_groups_text (group ∷ groups)) (joined-some 16 58 (omega arith) group groups (All-head IsGroup group groups all))
-    ∙ text_groups-printed dotted group groups all
+    ∙ piece_groups-printed dotted group groups all
 
 -- a list is a front, a run of zeros, and the rest
 around_run : (groups : List ℕ) (start len : ℕ) → IsZeroRun groups start len
@@ -66,7 +67,7 @@ whole_back [] eight all = absurd (omega arith)
 whole_back (group ∷ groups) eight all =
     let text : List ℕ = address_groups_text (group ∷ groups) in
     ap (around_address text) (around-none group groups all)
-    ∙ ap whole_address (side_groups-printed true (group ∷ groups) all)
+    ∙ ap whole_address (text_groups-printed true (group ∷ groups) all)
     ∙ cond-true (length (group ∷ groups) == 8) (Some (groups_number (group ∷ groups))) None (eq-eqb _ _ eight)
 
 -- the text of the groups without such a run
@@ -80,9 +81,9 @@ gap_back groups start len eight all run within long =
     let count : 8 - (length front + length back) ≡ len = omega arith in
     ap (around_address (address_groups_text front ++ 58 ∷ 58 ∷ address_groups_text back))
     (around-gap front (address_groups_text back) (All-take IsGroup start groups all))
-    ∙ ap (λ sides. gap_address sides (side_groups true (address_groups_text back)))
-    (side_groups-printed false front (All-take IsGroup start groups all))
-    ∙ ap (gap_address (Some front)) (side_groups-printed true back (All-drop IsGroup (start + len) groups all))
+    ∙ ap (λ sides. gap_address sides (text_groups true (address_groups_text back)))
+    (text_groups-printed false front (All-take IsGroup start groups all))
+    ∙ ap (gap_address (Some front)) (text_groups-printed true back (All-drop IsGroup (start + len) groups all))
     ∙ cond-true (nat_le (length front + length back) 7)
     (Some (groups_number (front ++ (replicate (8 - (length front + length back)) 0 ++ back)))) None
     (le-leb (length front + length back) 7 (omega arith))

@@ -1,7 +1,7 @@
 use Rattle.std.specs.Prelude.{ℕ, ◌+◌, ◌*◌, List, Option, Some, None, fold, length, nat_le, if◌then◌else◌, ◌≡◌, ◌||◌, ◌==◌, Bool, true, ◌++◌, option_map}
-use Rattle.std.specs.List.{list_all}
+use Rattle.std.specs.List.{list_all, slice_split}
 use Rattle.std.specs.Char.{is_ascii_hexdigit}
-use Rattle.prefix_keys.specs.Text.{around_gap, side_groups}
+use Rattle.prefix_keys.specs.Text.{around_gap, groups_of_pieces, text_groups}
 
 -- Steps of the code, for the contracts of private functions. Callers of the crate need not read them.
 
@@ -13,6 +13,10 @@ more_groups count number (Some groups) =
     then Some (count + length groups, fold (λ n group. n * 65536 + group) number groups)
     else None
 more_groups count number None = None
+
+-- the groups of a text of pieces separated by colons; an empty text is one piece
+abbrev pub piece_groups : Bool → List ℕ → Option (List ℕ)
+piece_groups dotted text = groups_of_pieces dotted (slice_split (λ b. b == 58) text)
 
 -- the text begins with bytes of this kind, which are read as the value, followed by the rest
 pub record BeginsWith {A : Type 0} (byte : ℕ → Bool) (read : List ℕ → Option A) (text rest : List ℕ)
@@ -35,5 +39,5 @@ pub record BeginsWithSide (text rest : List ℕ) (count number : ℕ) : Type 0 w
   pub front : List ℕ
   pub whole : text ≡ front ++ rest
   pub bytes : list_all is_colon_byte front ≡ true
-  pub groups : (dotted : Bool) → Some (count, number) ≡ more_groups 0 0 (side_groups dotted front)
+  pub groups : (dotted : Bool) → Some (count, number) ≡ more_groups 0 0 (text_groups dotted front)
   pub gap : (back : List ℕ) → around_gap (front ++ back) ≡ following front (around_gap back)

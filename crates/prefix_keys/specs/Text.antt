@@ -64,14 +64,10 @@ groups_of_pieces dotted (piece ∷ pieces) =
     option_and_then (λ group.
     option_map (λ groups. group ∷ groups) (groups_of_pieces dotted pieces)) (hex_group piece)
 
--- the groups of a text of pieces separated by colons
+-- the groups of a text of pieces separated by colons; an empty text has none
 abbrev pub text_groups : Bool → List ℕ → Option (List ℕ)
+text_groups dotted [] = Some []
 text_groups dotted text = groups_of_pieces dotted (slice_split (λ b. b == 58) text)
-
--- the groups of one side of a `::`: those of its text, or none if it is empty
-abbrev pub side_groups : Bool → List ℕ → Option (List ℕ)
-side_groups dotted [] = Some []
-side_groups dotted text = text_groups dotted text
 
 -- the number that groups form, the first the highest
 abbrev pub groups_number : List ℕ → ℕ
@@ -96,10 +92,10 @@ around_gap _ = None
 -- separated by colons, in which one `::` may replace one or more groups of zero, and an IPv4 text the last two groups
 abbrev pub around_address : List ℕ → Option (List ℕ × List ℕ) → Option ℕ
 around_address text (Some (front, back)) =
-    gap_address (side_groups false front) (side_groups true back)
+    gap_address (text_groups false front) (text_groups true back)
 around_address text None =
     option_and_then (λ groups. if length groups == 8 then Some (groups_number groups) else None)
-    (side_groups true text)
+    (text_groups true text)
 
 -- the IPv6 address of a text
 abbrev pub colon_address : List ℕ → Option ℕ

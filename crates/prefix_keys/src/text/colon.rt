@@ -1,7 +1,7 @@
 ghost use Rattle.std.specs.Prelude.{◌≡◌, ◌≤◌, ◌<◌, ◌+◌, ◌*◌, ◌-◌, ◌^◌, IfSome, Some, None, [], ◌∷◌, option_map, nat_le, if◌then◌else◌};
 ghost use Rattle.std.specs.Char.{is_ascii_hexdigit};
-ghost use Rattle.prefix_keys.specs.Text.{hex_digit_value, hex_group, side_groups, around_gap, last_groups, text_groups, colon_address};
-ghost use Rattle.prefix_keys.specs.Inner.{BeginsWith, BeginsWithSide, is_colon_byte, more_groups};
+ghost use Rattle.prefix_keys.specs.Text.{hex_digit_value, hex_group, text_groups, around_gap, last_groups, colon_address};
+ghost use Rattle.prefix_keys.specs.Inner.{BeginsWith, BeginsWithSide, is_colon_byte, more_groups, piece_groups};
 
 use crate::cutting::cut;
 use crate::text::dotted::read_dotted;
@@ -100,7 +100,7 @@ fn read_group(text: &[u8]) -> Option<u32>
 // Returns the groups of a text of pieces separated by colons, or `None` if it is malformed or has more than eight.
 fn read_groups(text: &[u8], dotted: bool) -> Option<Groups>
     ensures { option_map (λ groups. (groups.count, groups.number)) result
-        ≡ more_groups 0 0 (text_groups dotted text.now) }
+        ≡ more_groups 0 0 (piece_groups dotted text.now) }
 {
     let mut groups = NONE;
     let mut rest = text;
@@ -118,7 +118,7 @@ fn read_groups(text: &[u8], dotted: bool) -> Option<Groups>
 // empty.
 fn read_side(text: &[u8], dotted: bool) -> Option<Groups>
     ensures { option_map (λ groups. (groups.count, groups.number)) result
-        ≡ more_groups 0 0 (side_groups dotted text.now) }
+        ≡ more_groups 0 0 (text_groups dotted text.now) }
 {
     if text.is_empty() {
         Some(NONE)

@@ -1,7 +1,7 @@
 use Rattle.std.proofs.Common.{ℕ, ◌∙◌, Option, ap, sym, option_map}
 use Rattle.prefix_keys.specs.Inner.{more_groups}
 use Rattle.prefix_keys.specs.declared.text.colon.Groups.{Groups}
-use Rattle.prefix_keys.proofs.ColonPieces.{text_groups-last, turn-none, turn-full, turn-next}
+use Rattle.prefix_keys.proofs.ColonPieces.{piece_groups-last, turn-none, turn-full, turn-next}
 use Rattle.prefix_keys.proofs.text.colon.read_groups.Goals as goal
 
 -- the count and the number of groups, if they exist
@@ -12,7 +12,7 @@ pub returns-then-piece-rest : goal.returns-then-piece-rest
 returns-then-piece-rest c =
     c.push_last.ensures
     ∙ ap (more_groups c.loop-rest.groups.0 c.loop-rest.groups.1.0)
-    (sym (text_groups-last c.args.dotted c.loop-rest.rest.now c.cut.result.0.now c.cut.ensures.front c.if-piece-rest.true))
+    (sym (piece_groups-last c.args.dotted c.loop-rest.rest.now c.cut.result.0.now c.cut.ensures.front c.if-piece-rest.true))
     ∙ c.loop-rest.invariant.same
 
 pub returns-in_err-read_group : goal.returns-in_err-read_group
