@@ -86,16 +86,12 @@ label_limit = 65535
 -- the rest of a line as a label, which must exist and be well formed
 abbrev pub label_of : List ℕ → Result Label MapFaultKind
 label_of [] = Err MissingLabel
-label_of (b ∷ bs) = if is_label (b ∷ bs) then Ok (b ∷ bs) else Err BadLabel
+label_of text = if is_label text then Ok text else Err BadLabel
 
--- the text is known, or there is room for one more
-abbrev pub has_room : List Label → Label → Bool
-has_room table text = has_label table text || nat_lt (length table) label_limit
-
--- a text added to the table, if there is room for what the line says and for the text
+-- a text added to the table, if there is room for what the line says, and the text is known or there is room for it
 abbrev pub with_text : Bool → Label → Earlier → Result Earlier MapFaultKind
 with_text room text earlier =
-    if room && has_room earlier.table text
+    if room && (has_label earlier.table text || nat_lt (length earlier.table) label_limit)
     then Ok (record earlier { table = with_label earlier.table text }) else Err TooMany
 
 -- `map-name NAME`
@@ -211,8 +207,8 @@ statement_line form earlier word rest =
 -- the content of a line, by its words
 abbrev pub content_line : Form → Earlier → List ℕ → Result Earlier MapFaultKind
 content_line form earlier [] = Ok earlier
-content_line form earlier (b ∷ bs) =
-    statement_line form earlier (first_word (b ∷ bs)) (after_word (b ∷ bs))
+content_line form earlier content =
+    statement_line form earlier (first_word content) (after_word content)
 
 -- the state after the lines of a text, given that after the first ones, whose number is `number`; the first faulty line
 -- ends the reading
@@ -248,6 +244,10 @@ list_reading text = lines_read form.List 0 (Ok no_lines) (lines_of text) >>= (λ
     }))
 
 -- Below: only contracts of parts and proofs use these; no promise of the program rests on them.
+
+-- the text is known, or there is room for one more
+abbrev pub has_room : List Label → Label → Bool
+has_room table text = has_label table text || nat_lt (length table) label_limit
 
 -- the result of reading a text as a map, or as a list; a failed allocation is reported with line 0
 pub record ReturnsMap (text : List ℕ) (result : Result MapText MapFault) : Type 0 where
