@@ -137,7 +137,7 @@ class Audit:
         words = ["sum", "--fields=src-label,dst-label", "--allow-skipped", *labels]
         groups = tables.Sums(b"src-label dst-label".split())
         for _, out in ipfix.run(words, self.files):
-            groups.add(tables.Table("the table of flowlabel-many", out))
+            groups.add_table(tables.Table("the table of flowlabel-many", out))
         self.found += ((0, None, text) for text in groups.unlabelled())
 
     def summary(self, number):

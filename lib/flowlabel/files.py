@@ -65,12 +65,8 @@ class File:
     def __init__(self, name, is_named):
         # A name that begins with a dash is no option.
         self.name, self.is_named = f"./{name}" if name.startswith("-") else name, is_named
-        with open(self.name, "rb", opener=lambda path, flags: os.open(path, flags | os.O_NONBLOCK)) as file:
-            found = os.fstat(file.fileno())
-            if not stat.S_ISREG(found.st_mode):
-                raise shared.Failure(f"{self.name}: not a regular file")
-            self.is_written = is_written(file)
-            header = file.read(16)
+        with shared.regular(self.name, follow=True) as file:
+            found, self.is_written, header = os.fstat(file.fileno()), is_written(file), file.read(16)
         self.size, self.state = found.st_size, state_of(found)
         # The time at which the first message was exported.
         self.time = int.from_bytes(header[4:8], "big") if header[:2] == b"\0\x0a" else 0
@@ -194,7 +190,7 @@ def explain(said):
     """Prints what flowlabel-many has printed on standard error, and the cause and the cure of a fault of a File."""
     fault = FAULT.search(said.decode(errors="surrogateescape"))
     if not fault or not os.path.isfile(fault[1]) or fault[2][0] == "M":
-        shared.explain(said)
+        shared.say_with_cure(said)
         return
     shared.say_error(said)
     name, offset = fault[1], int(fault[4])

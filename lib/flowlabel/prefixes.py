@@ -16,11 +16,6 @@ def block(text):
     return version, number, length
 
 
-def block_text(version, number, length):
-    """Returns a block as a text."""
-    return f"{shared.address_text(version, number)}/{length}"
-
-
 class Source:
     """A text of entries or ranges, and the number of the line that is read."""
 
@@ -59,7 +54,7 @@ class Source:
             except ValueError:
                 self.fail("this is no block of a list of `flowlabel shrink`")
             if (number, length) in seen:
-                self.fail(f"{block_text(version, number, length)} is there twice")
+                self.fail(f"{shared.block_text(version, number, length)} is there twice")
             seen.add((number, length))
             yield version, number, length, found[2]
 

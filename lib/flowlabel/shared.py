@@ -157,6 +157,13 @@ def passed(options, *names):
     return [f"--{name}={value}" for name in names for value in getattr(options, name.replace("-", "_"))]
 
 
+def whole_number(text):
+    """Returns the number that a text of digits is, such as that of an option. Raises ValueError for another text."""
+    if not (text.isascii() and text.isdigit()):
+        raise ValueError(f"no number: {text}")
+    return int(text)
+
+
 def shown(text):
     """Returns a text whose unprintable characters are escapes, so that it is in one line."""
     return "".join(c if c.isprintable() else f"\\x{ord(c):02x}" if ord(c) < 0x100 else f"\\u{ord(c):04x}"
@@ -233,6 +240,11 @@ def address_text(version, number):
     return socket.inet_ntop(FAMILIES[version], number.to_bytes(WIDTHS[version] // 8, "big"))
 
 
+def block_text(version, number, length):
+    """Returns a block as a text."""
+    return f"{address_text(version, number)}/{length}"
+
+
 def block(text):
     """Returns the version, the number of the address and the length of a block. An address is a block of its own.
     Raises ValueError for another text. Host bits may be set."""
@@ -241,6 +253,11 @@ def block(text):
     if slash and not (length.isascii() and length.isdigit() and len(length) <= 3 and int(length) <= WIDTHS[version]):
         raise ValueError(f"no length of a block: {length}")
     return version, number, int(length) if slash else WIDTHS[version]
+
+
+def in_ipv6(version, number):
+    """Returns the number of an address among those of IPv6."""
+    return number + (MAPPED if version == 4 else 0)
 
 
 def ends(version, number, length):
@@ -276,10 +293,19 @@ def refuse_other(name):
         raise Failure(f"{name}: not a regular file, so it isn't replaced")
 
 
-def regular(name):
-    """Opens a regular file to read its bytes. A link isn't followed, nor a pipe waited for, whoever plants it when."""
+def opened(name=None):
+    """Opens a file, or for - or no name standard input, to read its bytes. Returns it and how messages name it."""
+    if name in (None, "-"):
+        return open(0, "rb", closefd=False), "standard input"
+    return open(name, "rb"), name
+
+
+def regular(name, follow=False):
+    """Opens a regular file to read its bytes. A pipe isn't waited for, and a link isn't followed unless this is wanted,
+    whoever plants them when."""
+    wanted = os.O_NONBLOCK if follow else os.O_NONBLOCK | os.O_NOFOLLOW
     try:
-        file = os.fdopen(os.open(name, os.O_RDONLY | os.O_NOFOLLOW | os.O_NONBLOCK), "rb")
+        file = open(name, "rb", opener=lambda path, flags: os.open(path, flags | wanted))
     except OSError as fault:
         if fault.errno != errno.ELOOP:
             raise
@@ -313,16 +339,16 @@ def replacing(name):
             os.unlink(part)
 
 
-def flowlabel(*words, program=PROGRAM, stdout=subprocess.PIPE, **options):
+def flowlabel(*words, program=PROGRAM, stdout=subprocess.PIPE, explain=None, **options):
     """Runs flowlabel, or with --many first flowlabel-many, or another command, and returns its output unless a file
-    gets it, or without words the program's name. What it says is on standard error. If it fails, the script ends with
-    its status, whatever its output looks like. The options are those of subprocess.run."""
+    gets it, or without words the program's name. `explain` prints what it says. If it fails, the script ends with its
+    status, whatever its output looks like. The options are those of subprocess.run."""
     with tempfile.TemporaryFile() as said:
         try:
             ended = subprocess.run([program, *words], stdout=stdout, stderr=said, check=False, **options)
         finally:
             said.seek(0)
-            explain(said.read())
+            (explain or say_with_cure)(said.read())
     ended_well(ended.returncode)
     return ended.stdout
 
@@ -334,7 +360,7 @@ def say_error(said):
         sys.stderr.flush()
 
 
-def explain(said):
+def say_with_cure(said):
     """Prints what flowlabel has printed on standard error, and the cure of its first fault, if no script has done so
     yet."""
     if sys.stderr is not None and said:

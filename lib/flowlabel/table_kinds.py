@@ -479,7 +479,7 @@ class Bpf(Table):
         for found in self.entry.finditer(self.run("bpftool", "map", "dump", "pinned", self.pin(version))):
             key, number = map(bytes.fromhex, found.groups())
             length = int.from_bytes(key[:4], sys.byteorder)
-            block = prefixes.block_text(version, int.from_bytes(key[4:], "big"), length)
+            block = shared.block_text(version, int.from_bytes(key[4:], "big"), length)
             yield block, int.from_bytes(number, sys.byteorder)
 
     def update(self, old, new):

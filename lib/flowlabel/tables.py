@@ -36,7 +36,7 @@ def is_sums(columns):
     return len(columns) > 3 and columns[-3:] == TOTALS and {*fields} <= {*FIELDS} and len({*fields}) == len(fields)
 
 
-class Groups(dict):
+class Sums(dict):
     """The totals of groups, by a key of cells of some columns. A group that isn't there yet gets the totals 0."""
 
     def __init__(self, columns):
@@ -52,19 +52,21 @@ class Groups(dict):
         self[key] = [0, 0, 0]
         return self[key]
 
+    def add(self, keys, records, packets, octets):
+        """Adds the totals of lines to the groups of their keys."""
+        for key, its_records, its_packets, its_octets in zip(keys, records, map(int, packets), map(int, octets)):
+            group = self[key]
+            group[0] += its_records
+            group[1] += its_packets
+            group[2] += its_octets
 
-class Sums(Groups):
-    """The sums of several tables with the same columns."""
-
-    def add(self, table):
-        """Adds the lines of a table."""
+    def add_table(self, table):
+        """Adds the lines of a table of sums with the same columns."""
         if table.columns != [*self.columns, *TOTALS]:
             raise shared.Failure(f"{table.name}: it has other columns")
         for chunk in table.chunks():
             *keys, records, packets, octets = map(chunk.column, range(chunk.width))
-            for key, *totals in zip(zip(*keys), map(int, records), map(int, packets), map(int, octets)):
-                group = self[key]
-                group[:] = map(operator.add, group, totals)
+            self.add(zip(*keys), map(int, records), packets, octets)
 
     def count(self):
         """Returns the number of rows."""
