@@ -65,7 +65,7 @@ class File:
     def __init__(self, name, is_named):
         # A name that begins with a dash is no option.
         self.name, self.is_named = f"./{name}" if name.startswith("-") else name, is_named
-        with shared.regular(self.name, follow=True) as file:
+        with shared.regular(self.name, follow=is_named) as file:
             found, self.is_written, header = os.fstat(file.fileno()), is_written(file), file.read(16)
         self.size, self.state = found.st_size, state_of(found)
         # The time at which the first message was exported.
@@ -145,9 +145,8 @@ def in_folder(folder, options, others):
 
 def parts_of(files):
     """Returns how many runs of flowlabel-many there may be at a time, and the Files of each run."""
-    jobs = os.environ.get("JOBS", "")
-    size = sum(one.size for one in files)
-    if jobs and not (jobs.isdigit() and int(jobs)):
+    jobs, size = os.environ.get("JOBS", ""), sum(one.size for one in files)
+    if jobs and not re.fullmatch("0*[1-9][0-9]{0,3}", jobs):
         raise shared.Failure(f"JOBS: no number of runs: {jobs}", 2)
     jobs = int(jobs or min(len(os.sched_getaffinity(0)), 1 + size // WORTH))
     parts, room, names = [[]], size / jobs, 0

@@ -316,27 +316,33 @@ def regular(name, follow=False):
     return file
 
 
+def remove(name):
+    """Removes a file if there is one."""
+    with contextlib.suppress(FileNotFoundError):
+        os.unlink(name)
+
+
 @contextlib.contextmanager
 def replacing(name):
     """Opens a new binary file, which replaces the file NAME in one step if the block ends well. Otherwise NAME is as it
     was, also if a signal ends the script."""
     refuse_other(name)
     part = f"{name}.{os.getpid()}.part"
-    try:
-        with open(part, "xb") as file:
-            if os.path.exists(name):
-                os.fchmod(file.fileno(), stat.S_IMODE(os.stat(name).st_mode))
-            yield file
-            file.flush()
-            os.fsync(file.fileno())
-        os.replace(part, name)
-    except OSError as fault:
-        if fault.filename not in (None, part):
-            raise
-        raise OSError(fault.errno, fault.strerror, name) from None
-    finally:
-        with contextlib.suppress(OSError):
-            os.unlink(part)
+    with contextlib.ExitStack() as undoing:
+        try:
+            with open(part, "xb") as file:
+                # Only what was made here is removed.
+                undoing.callback(remove, part)
+                if os.path.exists(name):
+                    os.fchmod(file.fileno(), stat.S_IMODE(os.stat(name).st_mode))
+                yield file
+                file.flush()
+                os.fsync(file.fileno())
+            os.replace(part, name)
+        except OSError as fault:
+            if fault.filename not in (None, part):
+                raise
+            raise OSError(fault.errno, fault.strerror, name) from None
 
 
 def flowlabel(*words, program=PROGRAM, stdout=subprocess.PIPE, explain=None, **options):

@@ -127,14 +127,14 @@ class Steps:
         """Replaces a file by NAME_new."""
         old = f"{name}_old"
         shared.refuse_other(old)
-        remove(old)
+        shared.remove(old)
         if os.path.exists(name):
-            self.undo(remove, old)
-            self.at_end(remove, old)
+            self.undo(shared.remove, old)
+            self.at_end(shared.remove, old)
             os.link(name, old)
             self.undo(os.replace, old, name)
         else:
-            self.undo(remove, name)
+            self.undo(shared.remove, name)
         os.replace(f"{name}_new", name)
 
     def write(self, name, text):
@@ -142,8 +142,8 @@ class Steps:
         self.make(os.path.dirname(name))
         for place in (name, f"{name}_new"):
             shared.refuse_other(place)
-        self.undo(remove, f"{name}_new")
-        remove(f"{name}_new")
+        self.undo(shared.remove, f"{name}_new")
+        shared.remove(f"{name}_new")
         # A link that is planted there meanwhile isn't followed.
         with open(f"{name}_new", "xb") as file:
             file.write(text)
@@ -164,12 +164,6 @@ def attempt(action, *words):
     except (shared.Failure, OSError) as fault:
         return [str(fault)]
     return []
-
-
-def remove(name):
-    """Removes a file if there is one."""
-    with contextlib.suppress(FileNotFoundError):
-        os.unlink(name)
 
 
 def take(place):
@@ -209,7 +203,7 @@ def locked(name, folder=None):
             try:
                 yield file
             finally:
-                remove(place)
+                shared.remove(place)
     finally:
         for each in made[:-1]:
             attempt(os.rmdir, each)

@@ -10,7 +10,6 @@ import sys
 
 import prefixes
 import shared
-import steps
 
 PACKAGES = {"ip": "iproute2", "ipset": "ipset", "bpftool": "bpftool", "nft": "nftables"}
 ALL = {4: "0.0.0.0/0", 6: "::/0"}
@@ -464,7 +463,7 @@ class Bpf(Table):
     def fill(self, halves):
         for version, half in halves.items():
             new = f"{self.pin(version)}_new"
-            self.steps.undo(steps.remove, new)
+            self.steps.undo(shared.remove, new)
             # Flag 1, since such a map does not preallocate memory, and some room for updates.
             self.run("bpftool", "map", "create", new, "type", "lpm_trie", "key", str(4 + shared.WIDTHS[version] // 8),
                      "value", "4", "entries", str(2 * len(half) + 65536), "name", f"{self.name[:14]}{version}",

@@ -318,7 +318,7 @@ def fields_of(specifiers):
 
 def rate(values):
     """Returns of how many packets one is sampled, by the elements of a record, or 0 if all are."""
-    number = {element: int.from_bytes(value, "big") for element, value in values.items()}
+    number = {element: int.from_bytes(value, "big") for element, value in values.items() if len(value) <= 8}
     rates = [number.get(34, 0), number.get(50, 0)]
     if number.get(305):
         rates.append((number[305] + number.get(306, 0)) / number[305])

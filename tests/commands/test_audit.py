@@ -124,7 +124,10 @@ FLOWS = (
           (((305, 4), (306, 4)), struct.pack(">II", 1, 0), False),
           (((34, 2),), struct.pack(">H", 10), True), (((34, 2),), struct.pack(">H", 1), False),
           (((82, 65535), (50, 4)), b"\3abc" + struct.pack(">I", 10), True),
-          (((309, 2), (310, 4)), struct.pack(">HI", 3, 30), True), (((309, 2), (310, 4)), bytes(6), False))),
+          (((309, 2), (310, 4)), struct.pack(">HI", 3, 30), True), (((309, 2), (310, 4)), bytes(6), False),
+          # No number of an exporter is so long.
+          (((34, 400),), b"\xff" * 400, False), (((305, 4), (306, 65535)), bytes(3) + b"\1\xc8" + b"\xff" * 200,
+                                                   False))),
     (((1, template(256, *FOUR, *SUMS, (34, 4)),
        sets(256, FLOW + struct.pack(">I", 1) + FLOW + struct.pack(">I", 10))),), None, 0,
      (("sampled 1 in 10",),), (0, 0, 2, 2)),

@@ -134,6 +134,27 @@ class Files(Recorded):
         self.assertEqual(self.counts(names[-1])["skipped-sets"], 0)
         self.assertGreater(os.path.getsize(names[-1]), 1 << 16)
 
+    def test_a_flood(self):
+        """Nothing is kept of ever more domains, and not all of ever more templates."""
+        def memory():
+            wait(lambda: exporters.queued(process.port) == 0)
+            return int(re.search(r"(?m)^VmRSS:\s+(\d+) kB$", read(f"/proc/{process.pid}/status"))[1])
+        with self.recorder(folder="flood") as (process, sender):
+            sender.send(BEGIN)
+            before = memory()
+            for number in range(50_000):
+                sender.send(message(sets(2, struct.pack(">HH", 300, 0)), domain=number))
+                sender.send(message(domain=number))
+                if number % 1000 == 0:
+                    memory()
+            self.assertLess(memory() - before, 4000)
+            for number in range(40):
+                sender.send(message(template(300 + number, *FOUR, *[(210, 1)] * 14000)))
+            sender.send(flow(1))
+            status, names, error = self.end(process)
+        self.assertEqual((status, self.counts(*names)["records"], len(error)), (1, 2, 1))
+        self.assertIn(" messages are in no File. Each has too many templates.", error[0])
+
     def test_no_file_is_replaced(self):
         with self.recorder(folder="taken") as (process, sender):
             sender.send(BEGIN)

@@ -179,6 +179,14 @@ class Replaced(Script):
         self.assertEqual(texts("bin/odd"), (1, "", "odd: link: not a regular file, so it isn't replaced\n"))
         self.assertTrue(os.path.islink("link"))
 
+    def test_a_file_of_another(self):
+        # A file with the name of the new one is of somebody else, who may also have made it by chance.
+        self.script("open(f'file.{os.getpid()}.part', 'w').close()\n    with shared.replacing('file') as file: pass")
+        status, output, error = texts("bin/odd")
+        left = [name for name in os.listdir() if name.endswith(".part")]
+        self.assertEqual((status, output, error, len(left)), (4, "", "odd: file: File exists\n", 1))
+        os.remove(left[0])
+
     def test_no_folder(self):
         self.script("with shared.replacing('none/file') as file: pass")
         self.assertEqual(texts("bin/odd"), (4, "", "odd: none/file: No such file or directory\n"))
