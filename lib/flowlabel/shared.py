@@ -27,6 +27,7 @@ import argparse
 import collections
 import contextlib
 import errno
+import hashlib
 import os
 import re
 import shutil
@@ -314,6 +315,14 @@ def regular(name, follow=False):
         file.close()
         raise Failure(f"{name}: not a regular file")
     return file
+
+
+def checksum(file):
+    """Returns the checksum of an open file, as `b2sum -l 256` prints it."""
+    found = hashlib.blake2b(digest_size=32)
+    while chunk := file.read(1 << 20):
+        found.update(chunk)
+    return found.hexdigest().encode()
 
 
 def remove(name):

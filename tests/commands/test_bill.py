@@ -526,6 +526,22 @@ class Times(Case):
         self.assertEqual(self.lines("--fields", "proto", "--month", "2026-11", *zone, "ends.ipfix")[0],
                          [f"0|{sum(int(line.split('|')[1]) for line in wanted)}"])
 
+    def test_neighbours(self):
+        """A loss at an end of the month that is shorter than the longest pause, which only the other months show."""
+        begin, end, pause = 1793491200, 1796083200, 6 * 3600
+        hours = [*range(begin - 5 * pause + 1, end + 5 * pause, pause)]
+        # The exporter had nothing to send for a day.
+        del hours[60:64]
+        months = {"october": hours[:5], "november": hours[6:-6], "december": hours[-5:]}
+        for name, times in months.items():
+            write(f"{name}.ipfix", b"".join(file(flow(time), number=hours.index(time), time=time) for time in times))
+        words = ("--month", "2026-11", "--fields", "proto", "november.ipfix")
+        self.assertEqual(self.lines(*words), ([f"0|{len(months['november'])}"], ""))
+        for name in ("october", "december"):
+            status, output, error = texts(BILL, *words, f"{name}.ipfix")
+            self.assertEqual((status, output), (1, ""), error)
+            self.assertRegex(error, "1 records of the domain 1 are missing")
+
     def test_no_time(self):
         words = ("--by", "day", "--month", "2026-11", "none.ipfix")
         status, output, error = texts(BILL, *words)

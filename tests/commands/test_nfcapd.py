@@ -257,6 +257,10 @@ class Files(Collected):
                 with self.subTest(place=place):
                     self.assert_refused(found, "damaged: ")
 
+    def test_fifo(self):
+        os.mkfifo("fifo")
+        self.assert_refused(convert("fifo"), "fifo: not a regular file")
+
     def test_two_files(self):
         self.assertEqual(rows_of(convert(self.name, self.compressed("-j"))[1]), 2 * rows_of(self.wanted))
 
