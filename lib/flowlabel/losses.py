@@ -154,10 +154,6 @@ class Numbers:
         # other have the same number, though there are records between.
         self.is_mixed = self.is_partial = self.is_same = self.is_given_up = False
 
-    def give_up(self, fitting, last):
-        """Reads no numbers, since it is known that too few follow each other."""
-        self.is_given_up, self.fitting, self.last = True, fitting, last
-
     def faults(self):
         """Returns how often a number isn't the next one."""
         return len(self.gaps) + len(self.again)
@@ -334,7 +330,8 @@ class Loss:
                     continue
                 numbers = Numbers(domain_text(key), chain[0].way)
                 if fitting + len(chain) - 1 < FEWEST and not is_partial:
-                    numbers.give_up(fitting, chain[-1].last)
+                    # No numbers are read, since it is known that too few follow each other.
+                    numbers.is_given_up, numbers.fitting, numbers.last = True, fitting, chain[-1].last
                 self.sessions.update(((one.first.file, key), numbers) for one in chain)
         return any(not numbers.is_given_up for numbers in self.sessions.values())
 

@@ -13,6 +13,7 @@ import tempfile
 import time
 
 import shared
+import steps
 import tables
 
 SUMS = ("sh", "-c", 'file=$1; shift; b2sum -l 256 <"$file" && "$@" "$file" && printf "\\0"', "sh")
@@ -38,7 +39,7 @@ def run(options, words, its):
 
 def by_parallel(_, words, its):
     """Returns what GNU parallel has other machines print of each File."""
-    if not shared.output_of("parallel", "--version", package="parallel").startswith("GNU parallel"):
+    if not steps.Steps().run("parallel", "--version", package="parallel").startswith("GNU parallel"):
         raise shared.Failure("there is no GNU parallel")
     if any(brace in word for word in words for brace in "{}") or {*SEPARATORS} & {*words}:
         raise shared.Failure("GNU parallel would replace the braces or colons in the options")

@@ -396,14 +396,3 @@ def need(name, package):
     """Refuses to go on without a program, which is in a package of Debian."""
     if not shutil.which(name):
         raise Failure(f"there is no {name} (Debian: {package})")
-
-
-def output_of(*words, package, stdin=""):
-    """Runs another program, and returns its output as a text. If it fails, the first line that it prints is the reason.
-    PACKAGE is that of Debian."""
-    need(words[0], package)
-    ended = subprocess.run(words, input=stdin, capture_output=True, text=True, errors="surrogateescape", check=False)
-    if ended.returncode != 0:
-        lines = (ended.stderr.strip() or ended.stdout.strip() or f"the status is {ended.returncode}").splitlines()
-        raise Failure(f"{' '.join(words[:4])}: {lines[0]}")
-    return ended.stdout

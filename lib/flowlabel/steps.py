@@ -1,4 +1,5 @@
-"""Changes that are made whole or not at all, for flowlabel-fib and flowlabel-table: their steps, and a lock."""
+"""Changes that are made whole or not at all, for flowlabel-fib and flowlabel-table: their steps, and a lock. Other
+commands also run programs by a step."""
 
 import contextlib
 import fcntl
@@ -88,8 +89,8 @@ class Steps:
                 shared.warn(f"all is done, but removing what was there before failed: {why}")
 
     def run(self, *words, package, stdin="", silent=False):
-        """Runs a program, and returns its output. The first line that it prints is the reason if it fails. A `silent`
-        one also fails if it prints a line on standard error."""
+        """Runs a program, which is in a package of Debian, and returns its output. The first line that it prints is the
+        reason if it fails. A `silent` one also fails if it prints a line on standard error."""
         self.check()
         shared.need(words[0], package)
         with subprocess.Popen(words, stdin=subprocess.PIPE, stdout=subprocess.PIPE, stderr=subprocess.PIPE, text=True,

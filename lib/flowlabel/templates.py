@@ -142,19 +142,16 @@ class Templates:
         return data
 
     def template(self, domain, name):
-        """Returns the template of a data set, or None if there is none in force."""
-        found = self.known.get((domain, name))
+        """Returns the template of a data set, or None if there is none in force, so that the set is skipped."""
+        key = domain, name
+        found = self.known.get(key)
         if found is None or name < 256:
-            self.skip((domain, name))
+            self.skipped[key] += 1
+            self.refuse_many()
+            # A template that is known here was withdrawn.
+            self.first_skipped.setdefault(key, key in self.known)
             return None
         return self.all.get(found) or self.all.setdefault(found, Template(*found))
-
-    def skip(self, key):
-        """Counts a skipped set."""
-        self.skipped[key] += 1
-        self.refuse_many()
-        # A template that is known here was withdrawn.
-        self.first_skipped.setdefault(key, key in self.known)
 
     def refuse_many(self):
         """Refuses a File with more domains or the like than any exporter has, for which memory might not suffice."""

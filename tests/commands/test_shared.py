@@ -14,6 +14,8 @@ import signal
 from support import ROOT, Case, closed_pipe, command, load, outcome, read, rows, texts, write, write_program
 
 LIBRARY = ROOT / "lib/flowlabel"
+# What a script of the tests needs.
+LIBRARY_FILES = [f"lib/flowlabel/{name}" for name in ("program", "shared.py", "steps.py")]
 # Addresses as ipaddress reads them, and as flowlabel does: a number may have zeros before it, up to three digits.
 ADDRESSES = ("0.0.0.0", "10.1.2.3", "255.255.255.255", "::", "::1", "2001:db8::8:800:200C:417A", "::ffff:10.1.2.3",
              "ffff:ffff:ffff:ffff:ffff:ffff:ffff:ffff", "64:ff9b::192.0.2.33")
@@ -40,10 +42,12 @@ BODIES = (
     ("sys.exit(7)", 7, "", ""),
     ("os.kill(os.getpid(), 15)", -15, "", ""), ("os.kill(os.getpid(), 1)", -1, "", ""),
     ("os.kill(os.getpid(), 2)", -2, "", ""),
-    ("shared.say(shared.output_of('sh', '-c', 'echo $0 $1', 'a', 'b', package='dash').encode())", 0, "a b\n\n", ""),
-    ("shared.output_of('sh', '-c', 'echo first >&2; echo second >&2; exit 3', package='dash')", 1, "",
+    ("import steps; shared.say(steps.Steps().run('sh', '-c', 'echo $0 $1', 'a', 'b', package='dash').encode())", 0,
+     "a b\n\n", ""),
+    ("import steps; steps.Steps().run('sh', '-c', 'echo first >&2; echo second >&2; exit 3', package='dash')", 1, "",
      "odd: sh -c echo first >&2; echo second >&2; exit 3: first\n"),
-    ("shared.output_of('no-such-program', package='none')", 1, "", "odd: there is no no-such-program (Debian: none)\n"),
+    ("import steps; steps.Steps().run('no-such-program', package='none')", 1, "",
+     "odd: there is no no-such-program (Debian: none)\n"),
     ("os.environ['FLOWLABEL'] = '/bin/sh'; shared.say(shared.flowlabel('-c', 'echo $0', 'x'))", 0, "x\n\n", ""),
     ("os.environ['FLOWLABEL'] = '/bin/sh'; shared.flowlabel('-c', 'exit 3')", 3, "", ""),
     ("os.environ['FLOWLABEL'] = '/bin/sh'; shared.flowlabel('-c', 'kill -9 $$')", 137, "", ""),
@@ -103,9 +107,9 @@ class Script(Case):
 
     @classmethod
     def prepare(cls):
-        for name in ("shared.py", "program"):
-            os.makedirs("lib/flowlabel", exist_ok=True)
-            shutil.copy(LIBRARY / name, "lib/flowlabel")
+        os.makedirs("lib/flowlabel")
+        for name in LIBRARY_FILES:
+            shutil.copy(ROOT / name, name)
 
     def script(self, body):
         """Makes the script."""
@@ -128,7 +132,7 @@ class Endings(Script):
         self.assertEqual(texts("bin/odd", "--help"), (0, PAGE, ""))
         if error:
             self.assertEqual(texts("sh", "-c", "bin/odd 2>&-"), (status, output, ""))
-        self.assertEqual(self.files(), ["bin/odd", "lib/flowlabel/program", "lib/flowlabel/shared.py"])
+        self.assertEqual(self.files(), ["bin/odd", *LIBRARY_FILES])
 
     @rows(("./again",), ("links/deep/again",))
     def test_a_link_to_a_link(self, name):
@@ -169,8 +173,7 @@ class Replaced(Script):
         self.assertEqual((read("file"), os.stat("file").st_mode & 0o777), (wanted, 0o640))
         os.remove("file")
         texts("bin/odd")
-        self.assertEqual(self.files(),
-                         ["bin/odd", *["file"] * (status == 0), "lib/flowlabel/program", "lib/flowlabel/shared.py"])
+        self.assertEqual(self.files(), ["bin/odd", *["file"] * (status == 0), *LIBRARY_FILES])
 
     def test_a_link(self):
         os.symlink("odd", "link")
