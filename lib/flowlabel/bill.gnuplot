@@ -11,7 +11,7 @@ table = exists("minutes") ? minutes : bill
 quoted(text) = strstrt(text, "'") \
     ? text[1:strstrt(text, "'") - 1] . "'\\''" . quoted(text[strstrt(text, "'") + 1:strlen(text)]) : text
 file = "'" . quoted(table) . "'"
-if (system("cat " . file . " 2>/dev/null | head -n 1 | tr '|' '\\n' | grep -cx ' *bytes'") != 1) \
+if (system("cat -- " . file . " 2>/dev/null | head -n 1 | tr '|' '\\n' | grep -cx ' *bytes'") != 1) \
     exit error table . ": no table with a column 'bytes'"
 # Sums of an unknown time, whose minute is 0, have no bar.
 kept = exists("minutes") ? "^[^|]*T" : "^"

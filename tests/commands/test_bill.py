@@ -450,7 +450,7 @@ class Complete(Case):
         self.assertEqual((started.returncode, *found, os.listdir("temporary")), (-number, b"", b"", []))
         self.assertFalse(os.path.exists(f"/proc/{sleeper}"))
 
-    @rows(("1", 1), ("2", 2), ("9", 3), ("x", None), ("0", None))
+    @rows(("1", 1), ("2", 2), ("9", 3), ("x", None), ("0", None), ("\xb2", None))
     def test_jobs(self, jobs, count):
         """The Files of JOBS parts are summed at a time, and each is in one part."""
         names = [write(f"{number}.ipfix", file(flow(), time=NOVEMBER + 60 * number)) for number in range(3)]

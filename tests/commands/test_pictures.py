@@ -43,7 +43,7 @@ class Pictures(Case):
         self.assertAlmostEqual(heights[0], 3 * heights[1], delta=1)
 
     # A quote or a line feed must not end the name of a table in a command.
-    @rows(("bill.txt", "C"), ("a b'c\nd.txt", "C.UTF-8"))
+    @rows(("bill.txt", "C"), ("a b'c\nd.txt", "C.UTF-8"), ("-b.txt", "C"))
     def test_all_labels(self, name, locale):
         lines = "".join(f"{label}|1|2|{number}\n" for number, label in enumerate(LABELS, 1))
         found, heights = self.draw("bill", TITLE + lines, name, locale)
