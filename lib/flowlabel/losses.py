@@ -60,24 +60,13 @@ class Stretch:
         self.first = self.last = None
         # The latest time, and the longest time without a message.
         self.count = self.time = self.pause = self.way = 0
-        # The ways that differ in the messages up to now, since none has options records, and whether one has skipped
-        # sets.
-        self.ways, self.is_partial = (0, 2, 4), False
+        # Whether a message has skipped sets.
+        self.is_partial = False
 
     def see(self, message):
         """Reads the next message."""
-        _, _, _, _, sequence, _, _, skipped, flows, options, _, _ = message
-        if options:
-            self.settle()
-        if skipped or options:
-            self.is_partial = self.is_partial or skipped > 0
-            ends = message.ends()
-        else:
-            both, one = (sequence, sequence), (sequence, (sequence + 1) % MODULO)
-            ends = ((sequence, (sequence + flows) % MODULO) if flows else both, None,
-                    ((sequence - flows) % MODULO, sequence) if flows else both, None, one)
-        for way in self.ways:
-            its, (begin, end) = self.open[way], ends[way] or ends[way - 1]
+        self.is_partial = self.is_partial or message.skipped > 0
+        for way, (its, (begin, end)) in enumerate(zip(self.open, message.ends())):
             if begin in its:
                 self.fitting[way] += 1
                 if begin == end:
@@ -94,18 +83,9 @@ class Stretch:
                 self.pause = max(self.pause, message.time - self.time)
             self.time = message.time
 
-    def settle(self):
-        """Tells all ways apart."""
-        if len(self.ways) < len(WAYS):
-            self.ways = range(len(WAYS))
-            for way in (1, 3):
-                self.open[way], self.fitting[way] = {**self.open[way - 1]}, self.fitting[way - 1]
-
     def copy(self):
         """Returns what all of the File has shown up to now, which is one session."""
-        self.settle()
         whole = Stretch(1)
-        whole.ways = self.ways
         whole.open, whole.fitting = [dict([*ends.items()][-1:]) for ends in self.open], [*self.fitting]
         whole.first, whole.last, whole.count = self.first, self.last, self.count
         whole.time, whole.pause = self.time, self.pause
@@ -312,7 +292,6 @@ class Loss:
             whole, fitting = self.wholes.get(file), sum(max(one.fitting) for one in domains.values())
             is_whole = whole and len(domains) < TOGETHER and max(whole.fitting) > fitting
             for key, stretch in {None: whole}.items() if is_whole else domains.items():
-                stretch.settle()
                 kept[key].append(stretch)
         del self.domains, self.wholes
         earliest = min((one.first.time for its in kept.values() for one in its), default=0)
