@@ -54,7 +54,7 @@ class Sums(dict):
 
     def add(self, keys, records, packets, octets):
         """Adds the totals of lines to the groups of their keys."""
-        for key, its_records, its_packets, its_octets in zip(keys, records, map(int, packets), map(int, octets)):
+        for key, its_records, its_packets, its_octets in zip(keys, records, packets, octets):
             group = self[key]
             group[0] += its_records
             group[1] += its_packets
@@ -66,7 +66,7 @@ class Sums(dict):
             raise shared.Failure(f"{table.name}: it has other columns")
         for chunk in table.chunks():
             *keys, records, packets, octets = map(chunk.column, range(chunk.width))
-            self.add(zip(*keys), map(int, records), packets, octets)
+            self.add(zip(*keys), map(int, records), map(int, packets), map(int, octets))
 
     def count(self):
         """Returns the number of rows."""
