@@ -15,10 +15,6 @@ PACKAGES = {"ip": "iproute2", "ipset": "ipset", "bpftool": "bpftool", "nft": "nf
 ALL = {4: "0.0.0.0/0", 6: "::/0"}
 
 
-class Refusal(Exception):
-    """The reason why a table can't take a label."""
-
-
 def text(lines):
     """Returns the text of lines."""
     return "".join(f"{line}\n" for line in lines)
@@ -75,10 +71,10 @@ class Table:
         return self.steps.run(*words, package=PACKAGES[words[0]], **options)
 
     def label_for(self, label):
-        """Returns what the table takes as a label."""
+        """Returns what the table takes as a label. Raises ValueError for the reason why it can't take one."""
         number = self.labels.number(label)
         if number > self.limit:
-            raise Refusal(self.reason)
+            raise ValueError(self.reason)
         return number
 
     def fitting(self, version, half):
@@ -547,11 +543,11 @@ class Blocks(Table):
 
     def label_for(self, label):
         if b"\t" in label:
-            raise Refusal("a tab separates its columns")
+            raise ValueError("a tab separates its columns")
         try:
             return label.decode()
         except UnicodeDecodeError:
-            raise Refusal("it isn't UTF-8") from None
+            raise ValueError("it isn't UTF-8") from None
 
     def inputs(self, halves):
         return {f"{version}.{self.ending}": text(self.row(key, label) for key, label in half.items())
