@@ -117,10 +117,11 @@ class Table:
         """Yields the blocks of lines with their numbers. Commands omit a length if it is the largest, and a line of
         another form has the number 0."""
         for line in lines:
-            found = self.entry.fullmatch(line)
-            block = found and (ALL[version] if found[1] == "default" else found[1])
-            yield (block if "/" in block else f"{block}/{shared.WIDTHS[version]}", int(found[2], 0)) if found else (
-                line, 0)
+            if found := self.entry.fullmatch(line):
+                block = ALL[version] if found[1] == "default" else found[1]
+                yield block if "/" in block else f"{block}/{shared.WIDTHS[version]}", int(found[2], 0)
+            else:
+                yield line, 0
 
     def update(self, old, new):
         """Changes what differs: removes halves of old entries, and adds those of new ones, which may have the same
