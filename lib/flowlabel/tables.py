@@ -30,12 +30,6 @@ for option in ("--csv", "--json", "--strings"):
 CHUNK = 1 << 15
 
 
-def is_sums(columns):
-    """Returns whether these may be the columns of a table of sums: fields, perhaps after a time, and the totals."""
-    fields = columns[columns[0] in TIMES:-3]
-    return len(columns) > 3 and columns[-3:] == TOTALS and {*fields} <= {*FIELDS} and len({*fields}) == len(fields)
-
-
 class Sums(dict):
     """The totals of groups, by a key of cells of some columns. A group that isn't there yet gets the totals 0."""
 
@@ -128,9 +122,13 @@ class Table:
         header = file.readline()
         self.columns = header[:-1].split(b"|")
         self.is_rows = self.columns in (ROWS, ROWS + LABELS)
+        # A table of sums has fields, perhaps after a time, and the totals.
+        fields = self.columns[self.columns[0] in TIMES:-3]
+        is_sums = len(self.columns) > 3 and self.columns[-3:] == TOTALS
         if not header:
             raise shared.Failure(f"{name}: there is no table, not even a header")
-        if not header.endswith(b"\n") or not self.is_rows and not is_sums(self.columns):
+        if not header.endswith(b"\n") or not self.is_rows and not (
+                is_sums and {*fields} <= {*FIELDS} and len({*fields}) == len(fields)):
             self.fail("this is no header of `rows` or of sums (without --columns)")
         self.labels = [column for column in LABELS if column in self.columns]
         # The columns whose cells must be numbers.
@@ -163,14 +161,11 @@ class Table:
                          for cell in self.cells_of(line, place)]
             chunk = Chunk(cells, width, range(count))
             for name in self.numbers:
-                self.check_numbers(chunk.column(self.index(name)))
+                cells = chunk.column(self.index(name))
+                if not (b"".join(cells).isdigit() and all(cells)):
+                    self.fail(NO_CELL, next(place for place, cell in enumerate(cells) if not cell.isdigit()))
             yield chunk
             self.line += count
-
-    def check_numbers(self, cells):
-        """Fails if a cell of a chunk is no number."""
-        if not (b"".join(cells).isdigit() and all(cells)):
-            self.fail(NO_CELL, next(place for place, cell in enumerate(cells) if not cell.isdigit()))
 
     def cells_of(self, line, place):
         """Returns the cells of a line. If there are too many, these can only be parts of one label."""
