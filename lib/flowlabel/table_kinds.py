@@ -480,9 +480,11 @@ class Bpf(Table):
 
     def update(self, old, new):
         self.steps.finish()
-        self.run("bpftool", "batch", "file", "-", stdin=text(
-            line for version, half in new.items()
-            for line in self.lines(version, {**half, **dict.fromkeys(old[version].keys() - half.keys())})))
+        lines = []
+        for version, half in new.items():
+            gone = dict.fromkeys(prefix for prefix in old[version] if prefix not in half)
+            lines += self.lines(version, {**half, **gone})
+        self.run("bpftool", "batch", "file", "-", stdin=text(lines))
 
 
 class Nft(Table):
