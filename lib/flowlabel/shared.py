@@ -167,8 +167,9 @@ def whole_number(text):
 
 def shown(text):
     """Returns a text whose unprintable characters are escapes, so that it is in one line."""
-    return "".join(c if c.isprintable() else f"\\x{ord(c):02x}" if ord(c) < 0x100 else f"\\u{ord(c):04x}"
-                   for c in str(text))
+    text = str(text)
+    return text if text.isprintable() else "".join(
+        c if c.isprintable() else f"\\x{ord(c):02x}" if ord(c) < 0x100 else f"\\u{ord(c):04x}" for c in text)
 
 
 def bare(text):
