@@ -75,7 +75,13 @@ class Ranges:
             self.highest.append([*map(max, last, last[size:])])
 
     def place(self, address):
-        return bisect.bisect_right(self.starts, address) - 1
+        """Returns the index of the last start up to an address. If the address is that of a span, it is also that of
+        all numbers of the span, which one comparison shortens, up to the next start."""
+        least = address if type(address) is int else address.of(address.span[0])
+        place = bisect.bisect_right(self.starts, least) - 1
+        if least is not address and place + 1 < len(self.starts):
+            _ = address < self.starts[place + 1]
+        return place
 
     def last_at(self, address):
         """Returns the number of the last range with this address, or -1. The address may be a number of a span."""
