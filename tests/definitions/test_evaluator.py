@@ -10,7 +10,7 @@ from support import PROGRAM, ROOT, Case, needs, rows, run, write
 from support.ipfix import message, sets, template
 
 EVALUATE = ROOT / "dev/evaluate"
-TRIED = 300  # arguments for each word
+TRIED = 150  # arguments for each word
 # These speak of all values or of some index.
 NOT_COMPUTED = {"All", "Contains"}
 ARROW = re.compile(r"→(?![^(]*\))")  # outside of brackets
@@ -305,18 +305,19 @@ class Statuses(Case):
         self.assertEqual((ended.returncode, ended.stderr), (1, b"flowlabel: /dev/stdin: M1 BadStatement at 1\n"))
 
 
-class Size(Case):
-    """Files of half a megabyte with 5,000 rows, a quarter of what takes 60 seconds of CPU time and 1 GB at most."""
+class Sized:
+    """A map of so many mappings, and a File of so many messages of 14 rows, within seconds of CPU time and kB."""
 
     @rows(("label --pmap map.txt 10.1.2.3",), ("cat --pmap map.txt",), ("info day.ipfix",),
           ("uniq --fields sip,dport,dst-label --sort-output --pmap map.txt day.ipfix",))
     def test_size(self, line):
         rng = random.Random(5)
         write("map.txt", "".join(f"{rng.randrange(1, 224)}.{rng.randrange(256)}.{rng.randrange(256)}.0/"
-                                 f"{rng.randrange(8, 25)} L{rng.randrange(250)}\n" for _ in range(13_000)))
+                                 f"{rng.randrange(8, 25)} L{rng.randrange(250)}\n" for _ in range(self.mappings)))
         elements = ((8, 4), (12, 4), (7, 2), (11, 2), (2, 4), (1, 4), (210, 80))
         flow = lambda: bytes((10, 0, *rng.randbytes(8), 1, rng.randrange(4), *rng.randbytes(8))) + bytes(80)
-        messages = (message(sets(256, b"".join(flow() for _ in range(14))), number=14 * at) for at in range(358))
+        messages = (message(sets(256, b"".join(flow() for _ in range(14))), number=14 * at)
+                    for at in range(self.messages))
         write("day.ipfix", message(template(256, *elements)) + b"".join(messages))
         with open("output", "wb") as output, subprocess.Popen([EVALUATE, *line.split()], stdout=output) as process:
             _, status, used = os.wait4(process.pid, 0)
@@ -324,6 +325,17 @@ class Size(Case):
         self.assertEqual(process.returncode, 0)
         with open("output", "rb") as output:
             self.assertEqual(output.read(), run(PROGRAM, *line.split()).stdout)
-        self.assertLess(used.ru_maxrss, 250_000, "kB")
+        self.assertLess(used.ru_maxrss, self.most_memory, "kB")
         if os.environ.get("QUIET") == "1":
-            self.assertLess(used.ru_utime, 15)
+            self.assertLess(used.ru_utime, self.most_seconds)
+
+
+class Size(Sized, Case):
+    """Files of 50 kB with 500 rows."""
+    mappings, messages, most_memory, most_seconds = 1_300, 36, 60_000, 2
+
+
+class LargeSize(Sized, Case):
+    """Files of half a megabyte with 5,000 rows, a quarter of what takes 60 seconds of CPU time and 1 GB at most."""
+    is_long = True
+    mappings, messages, most_memory, most_seconds = 13_000, 358, 250_000, 15
