@@ -470,20 +470,20 @@ def first_sources():
     return [f"10.{high >> 8}.{high & 255}.{low}" for high in range(MILLIONS // 64) for low in range(0, 256, 4)]
 
 
-def first_addresses():
-    """Yields for each version a number of single addresses, one in each block of four."""
-    for low, block in (("10.0.0.0", "0.0.0.0/0"), ("2001:db8::", "::/0")):
-        low = ipaddress.ip_address(low)
-        yield [low + 4 * number for number in range(PAST)], ipaddress.ip_network(block)
+def first_addresses(version):
+    """Returns a number of single addresses, one in each block of four, and the block of all addresses."""
+    low, block = {4: ("10.0.0.0", "0.0.0.0/0"), 6: ("2001:db8::", "::/0")}[version]
+    low = ipaddress.ip_address(low)
+    return [low + 4 * number for number in range(PAST)], ipaddress.ip_network(block)
 
 
 class CountsOfMaps(Lines):
     """Statements, stretches, entries and node lines that 16 bits can't count: each single address has a label of its
     own."""
 
-    @rows((0,), (1,))
-    def test_version(self, number):
-        addresses, block = [*first_addresses()][number]
+    @rows((4,), (6,))
+    def test_version(self, version):
+        addresses, block = first_addresses(version)
         names = [str(address) for address in addresses]
         head = f"mode ipv{block.version}\n"
         entries = "".join(f"{name}/{block.max_prefixlen} A\n" for name in names)
@@ -506,9 +506,9 @@ class CountsOfMaps(Lines):
 
     def test_labels(self):
         """The maximum number of labels in a text, and UNKNOWN."""
-        addresses, block = [*first_addresses()][1]
+        addresses, block = first_addresses(4)
         labelled = [(address, f"L{number}") for number, address in enumerate(addresses[:65_535])]
-        write("labelled", "mode ipv6\n" + "".join(f"{address} {label}\n" for address, label in labelled))
+        write("labelled", "".join(f"{address} {label}\n" for address, label in labelled))
         lows = (block[0], *(address + 1 for address, _ in labelled))
         shown = "".join(f"{low}|{address - 1}|UNKNOWN\n{address}|{address}|{label}\n"
                         for low, (address, label) in zip(lows, labelled))
@@ -527,7 +527,7 @@ class CountsOfFlows(Lines):
     """Messages, sets, records, groups and filter items that 16 bits can't count, or the maximum number of them."""
 
     def test_lines(self):
-        sources = next(first_addresses())[0]
+        sources, _ = first_addresses(4)
         records = [f"{int(source):08x} 08080808 06 00000003 000000b4" for source in sources]
         write("single", message(TEMPLATE_SET) + b"".join(message(data_set(256, record)) for record in records))
         write("sets", message(TEMPLATE_SET, "01000004" * 16_372))
@@ -561,8 +561,9 @@ class CountsOfMillions(Lines):
         """Checks that a line succeeds with a limit of this many MB of memory."""
         self.expect(line, 0, out, before=f"ulimit -v {1000 * megabytes}; ", **streams)
 
-    def test_flows(self):
-        sources = first_sources()
+    @staticmethod
+    def write_file():
+        """Writes a File of MILLIONS flows, and returns their sources."""
         # The four bytes of the address follow the 20 of the headers.
         one = message(data_set(256, RECORD))
         numbers = struct.pack(f">{MILLIONS}I", *range(0xa00_0000, 0xa00_0000 + 4 * MILLIONS, 4))
@@ -570,12 +571,17 @@ class CountsOfMillions(Lines):
         for place in range(4):
             messages[20 + place::len(one)] = numbers[place::4]
         write("millions", message(TEMPLATE_SET) + messages)
-        rest = ROW.removeprefix("10.0.0.1")
-        sums = "".join(f"{source}|1|3|180\n" for source in sources)
+        return first_sources()
+
+    def test_flows(self):
+        sources, rest = self.write_file(), ROW.removeprefix("10.0.0.1")
         info = {"messages": MILLIONS + 1, "templates": 1, "options-templates": 0, "withdrawals": 0,
                 "data-sets": MILLIONS, "skipped-sets": 0, "records": MILLIONS, "options-records": 0, "rows": MILLIONS}
         self.within(15, "info millions", "".join(f"{name} {count}\n" for name, count in info.items()))
         self.within(120, "rows millions", TITLE + "".join(f"{source}{rest}" for source in sources))
+
+    def test_groups(self):
+        sums = "".join(f"{source}|1|3|180\n" for source in self.write_file())
         self.within(300, "uniq --fields sip millions", f"sip|{SUMS}{sums}")
         self.within(500, "uniq --fields dip,sip --sort-output millions",
                     f"dip|sip|{SUMS}8.8.8.8|" + sums.replace("\n", "\n8.8.8.8|").removesuffix("8.8.8.8|"))
@@ -602,15 +608,23 @@ class CountsOfMillions(Lines):
         self.assertTrue(read("map.ranges") == read("list.ranges"), "cat prints the same of a map and of its list")
 
     @rows((4,), (6,))
-    def test_certificates(self, version):
-        count = len(self.write_map(version)) + 1
+    def test_list(self, version):
+        self.write_map(version)
         self.within(500, "shrink --pmap map", read("list"))
+
+    @rows((4, ""), (6, ""), (4, "--compact"), (6, "--compact"))
+    def test_certificate(self, version, compact):
+        count = len(self.write_map(version)) + 1
+        self.within(500, f"shrink --pmap map --certificate {compact}", after=">cert")
+        self.within(300, "check --pmap map --list list --cert cert", f"minimal {count}\n")
+
+    @rows((4,), (6,))
+    def test_compacting(self, version):
+        self.write_map(version)
         self.within(500, "shrink --pmap map --certificate", after=">plain")
         self.within(500, "shrink --pmap map --certificate --compact", after=">compact")
         self.within(700, "recert --cert plain", read("compact"))
         self.within(600, "recert --cert compact", read("compact"))
-        for name in ("plain", "compact"):
-            self.within(300, f"check --pmap map --list list --cert {name}", f"minimal {count}\n")
 
 
 def first_bytes(number, reading):
