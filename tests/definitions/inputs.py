@@ -369,10 +369,13 @@ def known():
             yield Input(words, dict(zip(NAMES, texts)))
     # Faults that seldom occur in made inputs.
     too_deep = LAST[2].replace(b"c 1", b"n 0 0\nc 1")
-    yield Input([b"recert", b"--cert", b"cert.txt"], {b"cert.txt": too_deep})
+    for certificate in (too_deep, b""):
+        yield Input([b"recert", b"--cert", b"cert.txt"], {b"cert.txt": certificate})
     yield Input(CHECK, dict(zip(NAMES, (*HALVES[:2], HALVES[2].replace(b"n 1 0 1", b"n 1 1")))))
-    yield Input(CHECK, dict(zip(NAMES, (HALVES[0], HALVES[1] + b"128.0.0.0/1 A\n", HALVES[2]))))
-    for text in (b"10.0.0.0/8 A\nmode ipv4\n", b"mode ipv4\nmode ip\n"):
+    for entries in (HALVES[1] + b"128.0.0.0/1 A\n", b"mode ipv6\n::/0 A\n"):
+        yield Input(CHECK, dict(zip(NAMES, (HALVES[0], entries, HALVES[2]))))
+    for text in (b"10.0.0.0/8 A\nmode ipv4\n", b"mode ipv4\nmode ip\n", b"default a\x7f\n",
+                 b"label 5 red\nlabel 6 red\n"):
         yield Input([b"cat", b"--pmap", b"map.txt"], {b"map.txt": text})
     for line in ("cat", "label --pmap map.txt 1.2.3", "rows --sport 70000 f", "rows --packets 5-4 f",
                  "rows --saddress 10.0.0 f", "help", "uniq --fields colour f", "uniq --fields sip,sip f",

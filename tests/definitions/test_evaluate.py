@@ -18,7 +18,7 @@ from definitions import inputs
 from support import PROGRAM, ROOT, Case, rows, run, write
 
 # The made inputs: a number of parts, each with inputs of its own seed.
-SEED, PARTS, INPUTS = 20261129, 72, 125
+SEED, PARTS, INPUTS = 20261129, 120, 75
 # The faults that must occur. P1, a word that isn't UTF-8, has its own input. M12, more than 65,535 labels or a million
 # mappings, takes too long to evaluate.
 FAULTS = {*(f"M{number}" for number in range(1, 15) if number != 12), *(f"F{number}" for number in range(1, 8)),
@@ -29,10 +29,11 @@ COMMANDS = {"label", "info", "rows", "uniq", "cat", "shrink", "check", "recert"}
 # They can't be evaluated.
 NOT_EVALUATED = {"a_text_has_at_most_1000000_mappings", "a_list_with_an_entry_too_many_is_not_least",
                  "a_run_reports_any_other_fault", "a_file_may_have_a_text"}
-# The examples over the Files of examples/ take longer than all others together.
-SLOW, SLOW_CLAIMS = "samples.rt", 5
-# In how many parts the inputs of the worked examples are tried.
-KNOWN_PARTS = 4
+# In how many parts the longest files of claims are evaluated, and the inputs of the worked examples. The examples over
+# the Files of examples/ take longer than all others together.
+CLAIM_PARTS, KNOWN_PARTS = {"samples.rt": 5, "claims.rt.in": 3}, 4
+EXAMPLES = sorted((ROOT / "crates/definition_examples/src").glob("*.rt"))
+CLAIMS = [*(path.name for path in EXAMPLES if path.name != "lib.rt"), "claims.rt.in"]
 FILES = sorted(path.name for path in (ROOT / "examples").iterdir())
 
 
@@ -101,16 +102,9 @@ class Evaluated(Case):
 
 
 class Claims(Evaluated):
-    @rows(*((path.name,) for path in sorted((ROOT / "crates/definition_examples/src").glob("*.rt"))
-            if path.name not in ("lib.rt", SLOW)), ("claims.rt.in",))
-    def test_claims(self, name):
-        self.check(self.claimed(self.claims_of(name)))
-
-
-class ClaimsOfFiles(Evaluated):
-    @parts(0, SLOW_CLAIMS)
-    def test_claim(self, part):
-        self.check(self.claimed(self.claims_of(SLOW)[part::SLOW_CLAIMS]))
+    @rows(*((name, part) for name in CLAIMS for part in range(CLAIM_PARTS.get(name, 1))))
+    def test_claims(self, name, part):
+        self.check(self.claimed(self.claims_of(name)[part::CLAIM_PARTS.get(name, 1)]))
 
 
 class Known(Evaluated):
@@ -136,25 +130,25 @@ class Made(Evaluated):
 
 
 class Made1(Made):
-    @parts(0, 18)
+    @parts(0, 30)
     def test_made(self, part):
         self.compare(part)
 
 
 class Made2(Made):
-    @parts(18, 36)
+    @parts(30, 60)
     def test_made(self, part):
         self.compare(part)
 
 
 class Made3(Made):
-    @parts(36, 54)
+    @parts(60, 90)
     def test_made(self, part):
         self.compare(part)
 
 
 class Made4(Made):
-    @parts(54, PARTS)
+    @parts(90, PARTS)
     def test_made(self, part):
         self.compare(part)
 
