@@ -52,6 +52,9 @@ def begin():
                  "LIMIT"):
         os.environ.pop(name, None)
     os.environ["LC_ALL"] = "C"
+    # LD_PRELOAD can't name a library in a folder with a blank or a colon.
+    if re.search(r"[\s:]", tempfile.gettempdir()):
+        tempfile.tempdir = os.environ["TMPDIR"] = "/tmp"
     # Nothing is written beside the sources.
     os.environ["PYTHONDONTWRITEBYTECODE"] = "1"
     sys.dont_write_bytecode = True
