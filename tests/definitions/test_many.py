@@ -3,22 +3,17 @@
 import itertools
 import os
 import re
-import unittest
 
 from definitions import inputs
-from support import ROOT, Case, rows, run, write
+from support import MANY, Case, needs_many, rows, run, write
 
-SPECS = ROOT / "crates/flow_many/specs"
-PLACES = (os.environ.get("FLOWLABEL_MANY", ""), ROOT / "crates/flow_many_main/out/flow_many_main",
-          ROOT / "out/trial/flowlabel-many")
-MANY = next((place for place in PLACES if place and os.access(place, os.X_OK)), None)
 # With this seed the first few hundred inputs have all faults.
 SEED, PARTS, INPUTS = 20261135, 20, 50
 # Of a File's bytes, of templates, of maps and lists, of sums, and of words.
 FAULTS = {"F1", "F2", "F3", "F4", "F5", "M1", "S1", "S3", "U4", "P3", "P5", "P7", "L1", "L2", "L3", "cannot open"}
 
 
-@unittest.skipUnless(SPECS.is_dir() and MANY, "there is no flowlabel-many")
+@needs_many
 class Many(Case):
     @classmethod
     def prepare(cls):
