@@ -1,9 +1,9 @@
-"""The calls of the crates.
+"""Calls of the crates that tests/program/calls.py doesn't make: those that allocate nothing, or fail by a device.
 
 A test inside a crate has the crate proved once more, which takes minutes and promises no more to a user. So the tests
 are in tests/crates/calls, and `rt try` runs them without proof over copies of the crates: those of the libraries as a
 crate of its own, with the examples of their lib.rt, and those of flow_io, flowlabel and flow_many, which need private
-fields and calls, as modules of them. The texts of tests/program/worked.py are a module of constants for them.
+fields and calls, as modules of them. The programs' crates also have the texts of tests/program/worked.py as constants.
 
 All tests of a crate are compiled at once, which takes a minute or two. So the log of a run in which all passed is kept
 in a folder for temporary files, and read again until a source, a test or the toolchain changes.
@@ -188,7 +188,7 @@ class OfFlowMany(OverMemory):
 
 
 class OfLibraries(Calls):
-    """The public calls of all libraries, and their examples."""
+    """Public calls of the libraries that allocate nothing, and the examples of all libraries."""
     crate = "calls"
     names = (*tests_below(CALLS / "libraries"), *(f"{name}::its_example_runs" for name in examples()))
 
@@ -197,9 +197,7 @@ class OfLibraries(Calls):
         with open(source.parents[2] / "crates.txt", "a", encoding="utf-8") as file:
             file.write(f"calls: {' '.join(libraries())} byteorder\n")
         copy_tests(CALLS / "libraries", source)
-        for name in ("hexadecimal", "rows"):
-            shutil.copyfile(SHARED / f"{name}.rt.in", source / f"{name}.rt")
-        for name, text in {**examples(), "worked": constants()}.items():
+        for name, text in examples().items():
             write(source / f"{name}.rt", text)
             with open(source / "lib.rt", "a", encoding="utf-8") as file:
                 file.write(f"mod {name};\n")

@@ -6,8 +6,9 @@ without a position, and the last result must be that of the row. So the tests fi
 concealed by another one, and a call that always reports that memory ran out. A run under the maximum number of labels
 makes over 60,000 allocations, so each of them fails in a copy of the process that continues from there.
 
-CALLS are calls of the crates. A value that a call changes must be unchanged if an allocation failed, and the same call,
-made once more, must succeed. The small program in tests/crates/memory makes them. It is built if it is missing or old.
+The calls are those of tests/program/calls.py. A value that a call changes must be unchanged if an allocation failed,
+and the same call, made once more, must succeed. The small program in tests/crates/memory makes them. It is built if it
+is missing or old.
 
 The lines are those of tests/program/worked.py and worked_many.py. The status must be 3, with nothing on standard output
 and the line of the fault on standard error. If the line itself is invalid, the last allocations are for the line of its
@@ -25,10 +26,8 @@ import shlex
 import subprocess
 import typing
 
-from program.worked import BY_LABEL, BY_LABEL_COLUMNS, CLAPS, COLUMNS, COUNTS, HALF, HALVES, HALVES_CERT, \
-    HALVES_COMPACT, LARGE, LAST, LAST_CERT, LAST_COMPACT, LAST_LIST, LINES, LONE, LONE_COMPACT, NESTED, ONE_FLOW, \
-    SPAN, SPAN_CERT, SPAN_COMPACT, SPAN_LIST, TCP_ROW, TEMPLATE, TITLE, TWO_DOMAINS, TWO_FLOWS, lines_of, make, \
-    text_of
+from program.calls import CALLS
+from program.worked import CLAPS, LARGE, LINES, lines_of, make, text_of
 from program.worked_many import LINES as LINES_OF_MANY
 from support import ROOT, Case, needs, needs_many, preloaded, rows, run
 
@@ -39,118 +38,6 @@ COPY = REFUSED + b"flowlabel: out of memory\nstatus 003\n"
 RUNS = 48
 # Lines for which the fault is searched for after a failed allocation: in the list, or in the text of a line.
 LOOKED_THROUGH = ("rows --protocol 6,256 flows", "cat --list list.txt")
-
-OPTIONS_TEMPLATE = "01000002 00010095 00040029 0008"
-TEMPLATE_SHOWN = "template 256 0;8 4;12 4;4 1;2 4;1 4;"
-MESSAGE_SHOWN = (f"message 1610612736 0 1;templates;{TEMPLATE_SHOWN}values;"
-                 "8 [10, 0, 0, 1];12 [8, 8, 8, 8];4 [6];2 [0, 0, 0, 3];1 [0, 0, 0, 180];")
-
-
-class Call(typing.NamedTuple):
-    """A call of a crate: its name, its inputs, its output, and its output if an allocation failed.
-
-    The output of a call that changes a value goes on with that value, and `before` is the value before the call.
-    """
-    name: str
-    inputs: tuple
-    answer: str
-    failed: str = "AllocError;"
-    before: typing.Optional[str] = None
-    allocates: bool = True
-
-
-CALLS = (
-    # prefix_keys
-    Call("print_addr", ("", "2001:db8::2"), "Ok;2001:db8::2;", before=";"),
-    Call("print_addr", ("2001:db8::1|", "2001:db8::2"), "Ok;2001:db8::1|2001:db8::2;", before="2001:db8::1|;"),
-    Call("print_block", ("", "0.0.0.0/29"), "Ok;0.0.0.0/29;", before=";"),
-    Call("print_block", ("0.0.0.0/0 D;", "0.0.0.0/29"), "Ok;0.0.0.0/0 D;0.0.0.0/29;", before="0.0.0.0/0 D;;"),
-    # pmap_text
-    Call("read_map", (NESTED,), "ipv4;default 2;167772160 184549375 0;167772160 201326591 1;A;B;UNKNOWN;",
-         "M15 NoMemory at 0;"),
-    Call("read_list", (HALF,), "ipv4;0 1 0;A;", "M15 NoMemory at 0;"),
-    Call("Labels::add", ("", "A"), "Ok 0;A;", before=""),
-    Call("Labels::add", ("A", "more than 16 bytes"), "Ok 1;A;more than 16 bytes;", before="A;"),
-    Call("Labels::add", ("A,B", "A"), "Ok 0;A;B;", before="A;B;", allocates=False),
-    Call("Labels::copy", ("A,B,UNKNOWN",), "A;B;UNKNOWN;"),
-    # label_trie
-    Call("Trie::build", (NESTED, "10.1.1.1,12.0.0.0"), "B;UNKNOWN;"),
-    Call("Trie::build_list", (HALF, "0.0.0.1,128.0.0.1"), "A;;"),
-    Call("Trie::leaves", ("",), "0 0 0;"),
-    Call("Stretches::of_map", (HALVES,), "0 2147483647 0;2147483648 4294967295 1;"),
-    Call("Runs::of_map", (HALVES,), "0 2147483647 0;2147483648 4294967295 1;"),
-    Call("Stretches::of_list", (NESTED,),
-         "0 167772159;167772160 184549375 0;184549376 201326591 1;201326592 4294967295;"),
-    Call("Runs::of_list", ("10.0.0.0/8 B;10.0.0.0/7 B;",), "0 167772159;167772160 201326591 0;201326592 4294967295;"),
-    # label_lookup
-    Call("ListIndex::build", (HALF, "0.0.0.1,128.0.0.1"), "A;;"),
-    Call("StretchIndex::of_map", (NESTED, "10.1.1.1,12.0.0.0"), "B;UNKNOWN;"),
-    Call("StretchIndex::of_list", (HALF, "0.0.0.1,128.0.0.1"), "A;;"),
-    # ipfix_templates
-    Call("read_template_set", (TEMPLATE,), TEMPLATE_SHOWN, "X4 NoMemory;"),
-    Call("TemplateTable::set", ("", TEMPLATE), f"Ok;{TEMPLATE_SHOWN}", before="no template;"),
-    Call("TemplateTable::set", (OPTIONS_TEMPLATE, TEMPLATE), f"Ok;{TEMPLATE_SHOWN}",
-         before="template 256 1;149 4;41 8;"),
-    # ipfix_read
-    Call("read_file", (ONE_FLOW,), MESSAGE_SHOWN, "F10 NoMemory at 0;"),
-    Call("Messages::new", (ONE_FLOW,), MESSAGE_SHOWN),
-    Call("next_message", (ONE_FLOW,), MESSAGE_SHOWN, "F10 NoMemory at 0;F11 Failed at 0;"),
-    Call("next_message again", (ONE_FLOW * 2,), MESSAGE_SHOWN, "F10 NoMemory at 0;F11 Failed at 0;"),
-    # flow_filter
-    Call("Filter::read", (TWO_FLOWS, "--protocol", "17"), "false;true;", "L4 NoMemory --protocol;"),
-    Call("Filter::read", (TWO_FLOWS, "--protocol", "10-16"), "false;false;", "L4 NoMemory --protocol;"),
-    Call("Filter::read", (TWO_FLOWS, "--saddress", "::ffff:a00:0/104"), "true;false;", "L4 NoMemory --saddress;"),
-    # flow_uniq
-    Call("Keys::read", ("src-label",), "src-label;", allocates=False),
-    Call("Groups::new", ("src-label",), "groups 0;"),
-    Call("Groups::add", (ONE_FLOW * 2, "src-label", NESTED), "Ok;groups 1;B;1 3 180;", before="groups 0;"),
-    Call("Groups::add again", (ONE_FLOW * 2, "src-label", NESTED), "Ok;groups 1;B;2 6 360;",
-         before="groups 1;B;1 3 180;", allocates=False),
-    Call("Groups::sorted", (TWO_FLOWS, "sip", ""), "150994945;1 1 100;167772161;1 3 180;"),
-    # pmap_cert
-    Call("write_cert", (HALVES_CERT,), HALVES_CERT),
-    Call("write_cert", (LAST_COMPACT,), LAST_COMPACT),
-    Call("read_cert", (HALVES_CERT,), HALVES_CERT, "C7 NoMemory at 0;"),
-    Call("read_cert", (LAST_COMPACT,), LAST_COMPACT, "C7 NoMemory at 0;"),
-    Call("compact", (LAST_CERT,), LAST_COMPACT),
-    Call("compact", (LAST_COMPACT,), LAST_COMPACT),
-    Call("CompactText::new", (LAST_CERT,), LAST_COMPACT),
-    Call("CompactText::new", (LAST_COMPACT,), LAST_COMPACT, allocates=False),
-    Call("OpenedText", (LAST_COMPACT,), LAST_CERT),
-    Call("OpenedText", (SPAN_COMPACT,), SPAN_CERT),
-    # pmap_minimise
-    Call("minimise", (HALVES,), f"root cost 1;mode ipv4;0.0.0.0/0 A;128.0.0.0/1 B;{HALVES_CERT}"),
-    Call("minimise", (SPAN,), f"root cost 3;{SPAN_LIST}{SPAN_CERT}"),
-    Call("compact_certificate", (HALVES,), HALVES_COMPACT),
-    Call("compact_certificate", (LAST,), LAST_COMPACT),
-    Call("compact_certificate", (SPAN,), SPAN_COMPACT),
-    Call("compact_certificate", (LONE,), LONE_COMPACT),
-    Call("shortest", (HALVES,), "mode ipv4;0.0.0.0/0 A;128.0.0.0/1 B;"),
-    Call("shortest", (LONE,), "mode ipv4;0.0.0.0/0 D;10.0.0.1/32 X;"),
-    # cert_check
-    Call("check", (HALVES, HALVES, HALVES_CERT), "2;", "K7 NoMemory at 0;"),
-    Call("check", (LAST, LAST_LIST, LAST_COMPACT), "2;", "K7 NoMemory at 0;"),
-    Call("check", (HALVES, "128.0.0.0/1 B;0.0.0.0/1 A;", HALVES_CERT), "2;", "K7 NoMemory at 0;"),
-    Call("check_text", (HALVES, HALVES, HALVES_CERT), "2;", "C7 NoMemory at 0;"),
-    Call("check_text", (LAST, LAST_LIST, LAST_COMPACT), "2;", "C7 NoMemory at 0;"),
-    Call("carried", (HALVES, "0.0.0.0/1"), "0 2147483647 0;"),
-    Call("carried", (HALVES, "0.0.0.0/0"), "0 2147483647 0;2147483648 4294967295 1;"),
-    Call("carried_entries", (HALVES, "0.0.0.0/1"), "0 1 0;"),
-    Call("carried_entries", (HALVES, "0.0.0.0/0"), "0 1 0;2147483648 1 1;"),
-    # pmap_print
-    Call("print_list", ("mode ipv4;0.0.0.0/0 A;128.0.0.0/1 B;",), "mode ipv4;0.0.0.0/0 A;128.0.0.0/1 B;"),
-    Call("print_runs", ("",), "low|high|label;0.0.0.0|255.255.255.255|UNKNOWN;"),
-    Call("print_runs", ("128.0.0.0/1 A;",),
-         "low|high|label;0.0.0.0|127.255.255.255|UNKNOWN;128.0.0.0|255.255.255.255|A;"),
-    Call("print_rows", (ONE_FLOW,), f"{TITLE};{TCP_ROW};"),
-    Call("print_rows", (ONE_FLOW, "columns"), COLUMNS),
-    Call("print_rows labelled", (ONE_FLOW, NESTED), f"{TITLE}|src-label|dst-label;{TCP_ROW}|B|UNKNOWN;"),
-    Call("print_info", (TWO_DOMAINS,), COUNTS),
-    Call("print_groups", (ONE_FLOW * 2, "src-label", NESTED), BY_LABEL),
-    Call("print_groups", (ONE_FLOW * 2, "src-label", NESTED, "columns"), BY_LABEL_COLUMNS),
-    Call("print_groups", (TWO_FLOWS, "sip", "", "sorted"),
-         "sip|records|packets|bytes;9.0.0.1|1|1|100;10.0.0.1|1|3|180;"),
-)
 
 
 class Answer(typing.NamedTuple):

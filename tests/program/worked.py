@@ -2,7 +2,7 @@
 
 The values are those of docs/FORMATS.md, never what the program printed. tests/program/test_worked.py runs each line,
 tests/program/test_memory.py fails each of its allocations, and tests/crates/test_calls.py passes the texts on to the
-tests of the crates. The lines of flowlabel-many are in tests/program/worked_many.py.
+tests of flowlabel and flow_many. The lines of flowlabel-many are in tests/program/worked_many.py.
 """
 
 import os
@@ -37,6 +37,7 @@ SPAN_CERT = (f"flowlabel-cert 1 ipv4 2;D;X;{28 * 'n 3 0;'}n 3 0 1;n 2 1;n 1 1;n 
 LEAF_COMPACT = "flowlabel-cert 2 ipv4 1;UNKNOWN;l 0;"
 # A chain of one bit, whose end is a chain, too.
 SHORT_CHAINS = "flowlabel-cert 2 ipv6 2;A;B;c 1 1 0 0 1;c 4294967295 01 1;l 0;"
+LONG_LABEL = "a label of more than sixty-four bytes, which is wider than one piece of filling"
 # The maximum number of labels in a text.
 LABELS = "".join(f"label {number} t{number};" for number in range(1, 65_536))
 QUARTERS_LIST = "mode ipv4;0.0.0.0/0 A;64.0.0.0/2 B;192.0.0.0/2 C;"
@@ -171,6 +172,8 @@ LABELLED = (
     ("0.0.0.5 A;0.0.0.0 255.255.255.255 B;", "0.0.0.0 B 0.0.0.5 B 255.255.255.255 B"),
     (f"2001:db8::/32 A;ffff{7 * ':ffff'} B;",
      f"2001:db8{6 * ':ffff'} A ffff{6 * ':ffff'}:fffe UNKNOWN ffff{7 * ':ffff'} B"),
+    # Any byte above 127 is unchanged.
+    ("default \udcff;", "1.2.3.4 \udcff"),
 )
 # A File, and its first fault. Each is a fault of `rows` and of `info`.
 FILE_FAULTS = (
@@ -448,6 +451,13 @@ LINES = (
         ("uniq --fields src-label --sort-output --list list.txt flows", 0,
          "src-label|records|packets|bytes;|1|1|100;A|1|3|180;"),
     )),
+    # A label that is wider than one piece of filling, and none.
+    ({"flows": TWO_FLOWS, "list.txt": f"10.0.0.0/8 B;8.0.0.0/8 {LONG_LABEL};"}, (
+        ("rows --columns --list list.txt flows", 0,
+         f"     sip|    dip|sport|dport|proto|flags|packets|bytes|stime|etime|src-label|{'dst-label':>{len(LONG_LABEL)}};"
+         f"10.0.0.1|8.8.8.8|    0|    0|    6|    0|      3|  180|    0|    0|        B|{LONG_LABEL};"
+         f" 9.0.0.1|8.8.8.8|    0|    0|   17|    0|      1|  100|    0|    0|         |{LONG_LABEL};"),
+    )),
     ({"map.txt": NUMBERED}, (
         ("cat --pmap map.txt", 0,
          "low|high|label;0.0.0.0|0.255.255.255|UNKNOWN;1.0.0.0|1.255.255.255|red;2.0.0.0|2.255.255.255|6;"
@@ -550,8 +560,8 @@ class Line(typing.NamedTuple):
 
 
 def text_of(text):
-    """Returns the bytes of a text of the tables."""
-    return text.replace(";", "\n").encode()
+    """Returns the bytes of a text of the tables. A surrogate represents a byte that is no text."""
+    return text.replace(";", "\n").encode("utf-8", "surrogateescape")
 
 
 def lines_of(table):
