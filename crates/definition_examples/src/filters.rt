@@ -5,7 +5,6 @@ ghost use Rattle.definition_examples.specs.Filters.{of_option, passes, passes_al
 ghost use Rattle.definition_examples.specs.Maps.{by_map};
 ghost use Rattle.definition_examples.specs.Rows.{tcp, tcp_back};
 ghost use Rattle.flow_filter.specs.Condition.{passing};
-ghost use Rattle.flow_filter.specs.Laws.{rows_left};
 ghost use Rattle.flow_filter.specs.declared.fault.FilterFaultKind.TheVariants.{BadBlock, BadNumberList, BadRange};
 ghost use Rattle.flow_filter.specs.declared.option.FilterOption.TheVariants.{AnyLabel, Bytes, DestinationAddress, DestinationLabel, DestinationPort, Packets, Protocol, SourceAddress, SourceLabel, SourcePort};
 ghost use Rattle.prefix_keys.specs.declared.version.Version.TheVariants.{V6};
@@ -159,7 +158,7 @@ pub fn a_row_must_pass_each_option()
     ensures two_of_three { passes_all
         ((SourceLabel, codes "Inside") ∷ (Packets, codes "5-") ∷ (Bytes, codes "545") ∷ [])
         (by_map (codes "10.0.0.0/8 Inside\n198.51.100.0/24 Out, far\n")) tcp ≡ Ok false }
-    ensures one_option_after_another { rows_left ((Protocol, codes "6") ∷ (Packets, codes "5") ∷ []) None (tcp ∷ record tcp { protocol = 17 } ∷ tcp_back ∷ []) ≡ tcp ∷ [] }
+    ensures one_row_of_three { passing ((Protocol, codes "6") ∷ (Packets, codes "5") ∷ []) None (tcp ∷ record tcp { protocol = 17 } ∷ tcp_back ∷ []) ≡ tcp ∷ [] }
 {}
 
 /// FORMATS.md, "Statuses and fault lines": L1. NUMBERS contain no blanks, and have 1 to 20 digits.

@@ -3,14 +3,12 @@ ghost use Rattle.std.specs.Prelude.{Bool, List, Ok, Option};
 ghost use Rattle.label_lookup.specs.Labelling.{Labelling};
 ghost use Rattle.ipfix_read.specs.Message.{MessageView};
 ghost use Rattle.flow_rows.specs.Counts.{rows_of_messages};
-ghost use Rattle.flow_filter.specs.Condition.{Condition};
-ghost use Rattle.flow_filter.specs.Laws.{rows_left};
+ghost use Rattle.flow_filter.specs.Condition.{Condition, passing};
 ghost use Rattle.flow_uniq.specs.declared.field.KeyField.{KeyField};
 ghost use Rattle.flow_files.specs.Groups.{PrintsGroups, uniq_text};
 ghost use Rattle.flow_files.specs.Laws.{AnsweredWordsAreTaken, AreShared, SubcommandsAreAdded};
 
 use crate::definition::{Argument, FILTERS, SOURCES};
-use flow_filter::options_hold_together;
 use flow_uniq::rows_are_grouped_by_fields;
 
 /// A program has its subcommands one by one.
@@ -30,12 +28,11 @@ pub fn shared_arguments() -> ([Argument<'static>; 2], [Argument<'static>; 10])
     (SOURCES, FILTERS)
 }
 
-/// What `uniq` prints is a table of the groups of the rows that each option leaves.
+/// What `uniq` prints is a table of the groups of the rows that meet the condition.
 pub fn uniq_prints_groups()
     ensures { (fields : List KeyField) (condition : Condition) (sorted columns : Bool) (labels : Option Labelling)
         (messages : List MessageView) → PrintsGroups fields sorted columns labels
-        (rows_left condition labels (rows_of_messages messages)) (Ok (uniq_text fields condition sorted columns labels messages)) }
+        (passing condition labels (rows_of_messages messages)) (Ok (uniq_text fields condition sorted columns labels messages)) }
 {
-    options_hold_together();
     rows_are_grouped_by_fields();
 }

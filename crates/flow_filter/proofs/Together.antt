@@ -4,7 +4,6 @@ use Rattle.std.proofs.lemmas.List.Folds.{list_all-append}
 use Rattle.label_lookup.specs.Labelling.{Labelling, label_where}
 use Rattle.flow_rows.specs.Elements.{RowView}
 use Rattle.flow_filter.specs.Condition.{Condition, meets_option, passing, row_passes}
-use Rattle.flow_filter.specs.Laws.{rows_left}
 
 -- the rows that pass a test which is two others together
 module _ (both one other : RowView → Bool) (is : (row : RowView) → both row ≡ (one row && other row)) where
@@ -22,13 +21,3 @@ module _ (labels : Option Labelling) where
   passing-together one other =
       in_turn (row_passes (one ++ other) (label_where labels)) (row_passes one (label_where labels)) (row_passes other (label_where labels))
       (λ row. list_all-append (meets_option (label_where labels) row) one other)
-
-  all-rows : (rows : List RowView) → passing [] labels rows ≡ rows
-  all-rows [] = refl
-  all-rows (row ∷ rows) = ap (λ (l : List RowView). row ∷ l) (all-rows rows)
-
-  pub passing-left : (condition : Condition) (rows : List RowView) → passing condition labels rows ≡ rows_left condition labels rows
-  passing-left [] rows = all-rows rows
-  passing-left (part ∷ rest) rows =
-      in_turn (row_passes (part ∷ rest) (label_where labels)) (λ row. meets_option (label_where labels) row part) (row_passes rest (label_where labels)) (λ row. refl) rows
-      ∙ passing-left rest (filter (λ row. meets_option (label_where labels) row part) rows)

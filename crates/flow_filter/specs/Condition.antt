@@ -82,13 +82,10 @@ Condition = List Part
 abbrev pub condition_needs_labels : Condition → Bool
 condition_needs_labels condition = list_any (λ part. is_on_labels part.0) condition
 
--- the row meets each option given, with these labels of addresses
-abbrev pub row_passes : Condition → (AddressOf → Option (List ℕ)) → RowView → Bool
-row_passes condition label row = list_all (meets_option label row) condition
-
--- the rows that meet the condition, under a labelling or without one
+-- the rows that meet each option given, under a labelling or without one
 abbrev pub passing : Condition → Option Labelling → List RowView → List RowView
-passing condition labels all = filter (row_passes condition (label_where labels)) all
+passing condition labels rows =
+    filter (λ row. list_all (meets_option (label_where labels) row) condition) rows
 
 -- the options that have a text, with their texts
 abbrev pub given : List (Option (List ℕ)) → List FilterOption → Condition
@@ -107,3 +104,9 @@ abbrev pub filter_of : List (Option (List ℕ)) → Result Condition FilterFault
 filter_of texts =
     let condition = given texts ALL_OPTIONS in
     unless_malformed condition (find is_malformed condition)
+
+-- Below: only contracts of parts and proofs use these; no promise of the program rests on them.
+
+-- the row meets each option given, with these labels of addresses
+abbrev pub row_passes : Condition → (AddressOf → Option (List ℕ)) → RowView → Bool
+row_passes condition label row = list_all (meets_option label row) condition

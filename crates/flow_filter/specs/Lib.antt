@@ -2,4 +2,3 @@ pub mod Options
 pub mod Texts
 pub mod Condition
 pub mod Filters
-pub mod Laws

@@ -3,7 +3,6 @@ ghost use Rattle.std.specs.Prelude.{◌≡◌, ◌++◌, All, IsTrue, List, Opti
 ghost use Rattle.label_lookup.specs.Labelling.{Labelling, label_where};
 ghost use Rattle.flow_rows.specs.Elements.{RowView};
 ghost use Rattle.flow_filter.specs.Condition.{Condition, meets_option, passing, row_passes};
-ghost use Rattle.flow_filter.specs.Laws.{rows_left};
 
 /// A row passes if and only if it meets each option given. The rows that pass the options of two filters together are
 /// those that pass one filter and then the other.
@@ -16,6 +15,4 @@ pub fn options_hold_together()
         IsTrue (row_passes condition (label_where labels) row) }
     ensures together { (one other : Condition) (labels : Option Labelling) (rows : List RowView) →
         passing (one ++ other) labels rows ≡ passing other labels (passing one labels rows) }
-    ensures left { (condition : Condition) (labels : Option Labelling) (rows : List RowView) →
-        passing condition labels rows ≡ rows_left condition labels rows }
 {}

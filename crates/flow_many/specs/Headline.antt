@@ -4,7 +4,7 @@ use Rattle.ipfix_read.specs.Message.{MessageView}
 use Rattle.ipfix_read.specs.Messages.{file_reading, messages_in, placed_messages}
 use Rattle.flow_rows.specs.Counts.{counts_of, has_no_bytes, is_skipped, rows_of_messages, sets_of}
 use Rattle.flow_rows.specs.Laws.{summed_message_counts, sums_of_lines}
-use Rattle.flow_filter.specs.Laws.{rows_left}
+use Rattle.flow_filter.specs.Condition.{passing}
 use Rattle.label_lookup.specs.Labelling.{Labelling}
 use Rattle.pmap_print.specs.Messages.{messages_text}
 use Rattle.flow_files.specs.declared.by_file.ByFile.{ByFile}
@@ -22,7 +22,7 @@ AddsUp messages = summed_message_counts messages
 -- The headline: what a command that ends without a fault has written.
 
 -- `sum`: each File is read by itself, and has no skipped sets, unless such are allowed. The text is a table of groups
--- of the rows of all Files that each option leaves, by the labels of the map or the list. Each of these rows is in
+-- of the rows of all Files that meet each option, by the labels of the map or the list. Each of these rows is in
 -- exactly one group, once, and no other row is. `messages`: each File is read by itself, and the text has a line for
 -- each message. The counts of a File's lines add up to those that `info` prints for it.
 abbrev pub IsHeadline : Command → ByFile Text → List Text → Text → Type 0
@@ -31,7 +31,7 @@ IsHeadline (Sum fields source condition allowed columns names) labels_text texts
     × (files : List (List MessageView)) × (map file_reading texts ≡ map (λ file. Ok file) files)
     × (allowed ≡ false → All (λ file. list_any is_skipped (sets_of file) ≡ false) files)
     × PrintsGroups fields true columns labels
-    (rows_left condition labels (flat_map rows_of_messages files)) (Ok out)
+    (passing condition labels (flat_map rows_of_messages files)) (Ok out)
 IsHeadline (Messages names) labels_text texts out = (files : List (List Placed))
     × (map placed_messages texts ≡ map (λ file. Ok file) files) × (out ≡ messages_text files)
     × All (λ file. AddsUp (messages_in file)) files

@@ -68,23 +68,20 @@ row_of_elements said =
 abbrev pub first_row : Record → Option RowView
 first_row r = if same_kind r.kind Flow then row_of_elements (element forward r.fields) else None
 
--- the numbers of the second row, from those of the reverse direction and the first row: ports are exchanged, the protocol
--- is the same, and a missing time is that of the first row
-abbrev pub said_back : (ℕ → Option ℕ) → RowView → ℕ → Option ℕ
-said_back said row n =
-    if n == 7 then Some row.dport
-    else if n == 11 then Some row.sport
-    else if n == 4 then Some row.protocol
-    else if n == 152 then Some (unwrap_or (said n) row.start_ms)
-    else if n == 153 then Some (unwrap_or (said n) row.end_ms)
-    else said n
-
--- the row of the reverse direction of a row, from the numbers of that direction, if it has packets: it is between the
--- exchanged addresses
+-- the row of the reverse direction of a row, from the numbers of that direction, if it has packets: addresses and ports
+-- are exchanged, the protocol is the same, and a missing time is that of the row
 abbrev pub row_back : (ℕ → Option ℕ) → RowView → Option RowView
-row_back said row =
-    if count_of 2 86 said == 0 then None
-    else row_between row.version (Some row.dst) (Some row.src) (said_back said row)
+row_back said row = if count_of 2 86 said == 0 then None else Some (record row {
+  src = row.dst;
+  dst = row.src;
+  sport = row.dport;
+  dport = row.sport;
+  flags = unwrap_or (said 6) 0;
+  packets = count_of 2 86 said;
+  octets = count_of 1 85 said;
+  start_ms = unwrap_or (said 152) row.start_ms;
+  end_ms = unwrap_or (said 153) row.end_ms;
+})
 
 -- the second row of a record: that of the reverse direction of its first row, if it has a first row and packets went
 -- back

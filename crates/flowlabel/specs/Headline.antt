@@ -18,7 +18,7 @@ use Rattle.ipfix_read.specs.Messages.{file_reading}
 use Rattle.flow_rows.specs.Counts.{rows_of_messages}
 use Rattle.flow_rows.specs.Elements.{RowView}
 use Rattle.flow_rows.specs.Laws.{summed_counts}
-use Rattle.flow_filter.specs.Laws.{rows_left}
+use Rattle.flow_filter.specs.Condition.{passing}
 use Rattle.pmap_cert.specs.ListText.{labels_of, list_text}
 use Rattle.pmap_print.specs.Reports.{info_text, title_line}
 use Rattle.pmap_stretches.specs.RunsText.{runs_text}
@@ -118,8 +118,8 @@ pub record AreShrunk (name : Bor Text) (texts : ByFile Text)
       (Ok (minimal_text (length l.prefixes)))
 
 -- The headline for the text that a command writes for the texts of its files. `label`: it is the line of the address's
--- label. `info`: the numbers are the sums of those of each message. `rows`: it is a table of the rows that each option
--- in turn leaves. `uniq`: it is a table of the groups of these rows. `cat`: exactly one run has each address. `shrink`:
+-- label. `info`: the numbers are the sums of those of each message. `rows`: it is a table of the rows that meet
+-- each option. `uniq`: it is a table of the groups of these rows. `cat`: exactly one run has each address. `shrink`:
 -- it is read as a shortest list for the map, or as a certificate for this list. `check`: it is the number of entries of
 -- the list, which is equivalent and least. `recert`: it is a certificate as good as the one read.
 abbrev pub IsHeadline : Command → ByFile Text → Text → Type 0
@@ -129,11 +129,11 @@ IsHeadline (Info flows) texts out =
     Then (λ messages. Prints (info_text (summed_counts messages)))
     (with_bytes_fault InFlows (file_reading texts.flows)) (Ok out)
 IsHeadline (Rows labels options columns flows) texts out =
-    Then (λ read. PrintsRows columns read.0 (rows_left options read.0 (rows_of_messages read.1)))
+    Then (λ read. PrintsRows columns read.0 (passing options read.0 (rows_of_messages read.1)))
     (report_reading labels texts) (Ok out)
 IsHeadline (Uniq fields labels options sorted columns flows) texts out =
     Then (λ read. PrintsGroups fields sorted columns read.0
-    (rows_left options read.0 (rows_of_messages read.1))) (report_reading labels texts) (Ok out)
+    (passing options read.0 (rows_of_messages read.1))) (report_reading labels texts) (Ok out)
 IsHeadline (Cat labels) texts out = Then PrintsEachOnce (labels_reading labels texts) (Ok out)
 IsHeadline (Shrink map shrunk.List) texts out = (m : MapModel) × (l : ListModel)
     × (map_reading texts.map ≡ Ok m) × IsShortest m l × PrintsList l out

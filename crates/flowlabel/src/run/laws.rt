@@ -10,8 +10,7 @@ ghost use Rattle.label_lookup.specs.Labelling.{labelling_of_map};
 ghost use Rattle.ipfix_read.specs.Message.{MessageView};
 ghost use Rattle.ipfix_read.specs.Messages.{file_reading};
 ghost use Rattle.flow_rows.specs.Counts.{rows_of_messages};
-ghost use Rattle.flow_filter.specs.Condition.{Condition};
-ghost use Rattle.flow_filter.specs.Laws.{rows_left};
+ghost use Rattle.flow_filter.specs.Condition.{Condition, passing};
 ghost use Rattle.flow_uniq.specs.declared.field.KeyField.{KeyField};
 ghost use Rattle.flowlabel.specs.Headline.{AreShrunk, IsHeadline, PrintsRows};
 ghost use Rattle.flow_files.specs.Groups.{PrintsGroups};
@@ -26,7 +25,6 @@ ghost use Rattle.flowlabel.specs.declared.command.Shrunk.TheVariants as shrunk;
 
 use cert_check::no_fault_is_acceptance;
 use flow_files::uniq_prints_groups;
-use flow_filter::options_hold_together;
 use flow_rows::counts_add_up;
 use pmap_cert::{
     acceptance_is_enough, compact_gives_back_equal, compact_has_a_text, compact_has_no_more_lines,
@@ -84,7 +82,6 @@ pub fn output_keeps_headline()
     compact_gives_back_equal();
     compact_keeps_acceptance();
     counts_add_up();
-    options_hold_together();
     uniq_prints_groups();
     runs_cover_each_address_once();
 }
@@ -111,7 +108,7 @@ pub fn shrunk_list_keeps_reports()
         IsOutput (Shrink name shrunk.List) texts (Ok printed) → (l : ListModel) × (printed ≡ list_text l)
         × (length l.prefixes ≤ mapping_limit → length (labels_of l.prefixes) ≤ label_limit →
         let labels = Some (labelling_of_map m) in let with_list = record texts { list = printed } in
-        let left = λ (condition : Condition). rows_left condition labels (rows_of_messages messages) in
+        let left = λ (condition : Condition). passing condition labels (rows_of_messages messages) in
         ((condition : Condition) (columns : Bool) → (out : Text)
         × IsOutput (Rows (Some (Map name)) condition columns name) texts (Ok out)
         × IsOutput (Rows (Some (Prefixes name)) condition columns name) with_list (Ok out)

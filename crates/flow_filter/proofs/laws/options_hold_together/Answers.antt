@@ -1,7 +1,7 @@
 use Rattle.std.proofs.lemmas.List.Sums.{AllPass-from_list_all, list_all-from_AllPass}
 use Rattle.label_lookup.specs.Labelling.{label_where}
 use Rattle.flow_filter.specs.Condition.{meets_option}
-use Rattle.flow_filter.proofs.Together.{passing-left, passing-together}
+use Rattle.flow_filter.proofs.Together.{passing-together}
 use Rattle.flow_filter.proofs.laws.options_hold_together.Goals as goal
 
 pub returns-clause-each : goal.returns-clause-each
@@ -12,6 +12,3 @@ returns-clause-all c condition labels row each = list_all-from_AllPass (meets_op
 
 pub returns-clause-together : goal.returns-clause-together
 returns-clause-together c one other labels rows = passing-together labels one other rows
-
-pub returns-clause-left : goal.returns-clause-left
-returns-clause-left c condition labels rows = passing-left labels condition rows

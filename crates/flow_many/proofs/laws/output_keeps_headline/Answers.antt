@@ -3,7 +3,7 @@ use Rattle.std.specs.Prelude.{All}
 use Rattle.std.proofs.lemmas.List.Elements.{All-cons, All-nil}
 use Rattle.ipfix_read.specs.Message.{MessageView}
 use Rattle.ipfix_read.specs.Messages.{messages_in}
-use Rattle.flow_filter.specs.Laws.{rows_left}
+use Rattle.flow_filter.specs.Condition.{passing}
 use Rattle.flow_rows.specs.Counts.{rows_of_messages}
 use Rattle.flow_rows.specs.Elements.{RowView}
 use Rattle.pmap_print.specs.Messages.{messages_text}
@@ -40,9 +40,9 @@ returns c (Sum fields source condition allowed columns names) labels_text texts 
       files_are c.placed_are_messages.ensures texts files read.placed,
       λ refuses. none_skipped (has_time fields) condition labels files
           (subst (λ (a : Bool). AreRead (refusal_by (has_time fields) condition a labels) texts files) refuses read).allowed,
-      subst (λ (rows : List RowView). PrintsGroups fields true columns labels (rows_left condition labels rows) (Ok out)) (rows_are files)
+      subst (λ (rows : List RowView). PrintsGroups fields true columns labels (passing condition labels rows) (Ok out)) (rows_are files)
           (subst (λ (text : Text). PrintsGroups fields true columns labels
-          (rows_left condition labels (rows_of_messages (all_messages files))) (Ok text)) (printed _ (uniq_text fields condition true columns labels (all_messages files)) out refl prints) grouped),
+          (passing condition labels (rows_of_messages (all_messages files))) (Ok text)) (printed _ (uniq_text fields condition true columns labels (all_messages files)) out refl prints) grouped),
     )
 returns c (Messages names) labels_text texts out is =
     let (files, reads, prints) = first_ok (files_reading (λ before message. None) texts) _ out is in

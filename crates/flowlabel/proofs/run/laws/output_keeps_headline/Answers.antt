@@ -15,7 +15,7 @@ use Rattle.flowlabel.proofs.CoveringLabels.{labelling-of_list, labelling-of_map}
 use Rattle.flowlabel.proofs.RunLemmas.{apart-runs}
 use Rattle.flow_rows.specs.Counts.{rows_of_messages}
 use Rattle.flow_rows.specs.Elements.{RowView}
-use Rattle.flow_filter.specs.Laws.{rows_left}
+use Rattle.flow_filter.specs.Condition.{passing}
 use Rattle.pmap_print.specs.Reports.{info_text, title_line}
 use Rattle.pmap_print.specs.Table.{table_text}
 use Rattle.flowlabel.specs.Headline.{GivesLabels, PrintsList, PrintsRows}
@@ -68,14 +68,11 @@ returns c (Info flows) texts out is =
     keep_over _ _ (flows_in texts) is (λ messages made. made ∙ ap (λ counts. Ok (info_text counts)) (c.counts_add_up.ensures.each messages))
 returns c (Rows file condition columns flows) texts out is =
     keep_over _ _ (report_reading file texts) is (λ read made.
-    let shown = rows_left condition read.0 (rows_of_messages read.1) in (
-      λ k d below. titles_of_rows read.0 (slice_index_or shown k d),
-      made ∙ ap (λ shown. Ok (table_text columns (labelled_row_lines read.0 shown)))
-          (c.options_hold_together.ensures.left condition read.0 (rows_of_messages read.1)),
-    ))
+    let shown = passing condition read.0 (rows_of_messages read.1) in
+    (λ k d below. titles_of_rows read.0 (slice_index_or shown k d), made))
 returns c (Uniq fields file condition sorted columns flows) texts out is =
     keep_over _ _ (report_reading file texts) is (λ read made.
-    subst (λ (outcome : Outcome). PrintsGroups fields sorted columns read.0 (rows_left condition read.0 (rows_of_messages read.1)) outcome) (sym made)
+    subst (λ (outcome : Outcome). PrintsGroups fields sorted columns read.0 (passing condition read.0 (rows_of_messages read.1)) outcome) (sym made)
     (c.uniq_prints_groups.ensures fields condition sorted columns read.0 read.1))
 returns c (Cat file) texts out is =
     keep_over _ _ (labels_reading file texts) is (λ labels (lines, runs, made). (
