@@ -220,7 +220,7 @@ class OfFlowlabel(Case):
 
     @classmethod
     def prepare(cls):
-        made("flows.py", "usual", 20000, "usual.ipfix")
+        made("flows.py", "usual", 10000, "usual.ipfix")
 
     @rows(("usual.ipfix",), (ROOT / "examples/softflowd-biflow.ipfix",), (ROOT / "examples/pmacctd.ipfix",))
     def test_sums(self, name):
