@@ -309,6 +309,8 @@ def made_many(seed, count):
     files = {b"map.txt": b"x\n", b"list.txt": b"0.0.0.0/0 A\n", b"0.ipfix": b""}
     yield Input(b"sum --fields dst-label --pmap map.txt 0.ipfix".split(), files)
     yield Input(b"sum --fields dst-label --pmap map.txt --list list.txt 0.ipfix".split(), files)
+    # A fault that seldom occurs.
+    yield Input([b"messages", b"0.ipfix"], {b"0.ipfix": bytes.fromhex("000a000f600000000000000000000001")})
     for number in range(count):
         texts = Texts(rng) if number % 25 == 0 else texts
         damage, names = rng.random() < 0.3, []

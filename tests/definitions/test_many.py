@@ -7,8 +7,8 @@ import re
 from definitions import inputs
 from support import MANY, Case, needs_many, rows, run, write
 
-# With this seed the first few hundred inputs have all faults.
-SEED, PARTS, INPUTS = 20261135, 20, 50
+# The made inputs: a number of seeds, each with this many inputs and a few more. Of a seed PARTS tests try TRIED each.
+SEED, SEEDS, INPUTS, PARTS, TRIED = 20261130, 4, 250, 5, 51
 # Of a File's bytes, of templates, of maps and lists, of sums, and of words.
 FAULTS = {"F1", "F2", "F3", "F4", "F5", "M1", "S1", "S3", "U4", "P3", "P5", "P7", "L1", "L2", "L3", "cannot open"}
 
@@ -28,11 +28,12 @@ class Many(Case):
             write(os.fsdecode(name), content)
         return run(MANY, *given.words)
 
-    @rows(*((part,) for part in range(PARTS)))
+    @rows(*((part,) for part in range(SEEDS * PARTS)))
     def test_made(self, part):
         """Both have the same output, the same standard error and the same status, and the headline is true."""
         import runs
-        for given in inputs.made_many(f"{SEED} {part}", INPUTS):
+        seed, first = part // PARTS, part % PARTS * TRIED
+        for given in itertools.islice(inputs.made_many(f"{SEED} {seed}", INPUTS), first, first + TRIED):
             ended = self.ended(given)
             seen = self.claims.with_stack(lambda given=given: runs.seen_of(
                 self.definitions, given.words, given.files.get, "flowlabel-many", True))
@@ -43,7 +44,7 @@ class Many(Case):
 
     def test_each_fault_occurs(self):
         missing = set(FAULTS)
-        for given in itertools.chain(*(inputs.made_many(f"{SEED} {part}", INPUTS) for part in range(PARTS))):
+        for given in itertools.chain(*(inputs.made_many(f"{SEED} {seed}", INPUTS) for seed in range(SEEDS))):
             missing -= {code.decode() for code in re.findall(rb"cannot open|\b[A-Z]\d+\b", self.ended(given).stderr)}
             if not missing:
                 return
