@@ -28,7 +28,7 @@ pub fn shared_arguments() -> ([Argument<'static>; 2], [Argument<'static>; 10])
     (SOURCES, FILTERS)
 }
 
-/// What `uniq` prints is a table of the groups of the rows that meet the condition.
+/// The text that `uniq` prints is a table of the groups of the rows that meet the condition.
 pub fn uniq_prints_groups()
     ensures { (fields : List KeyField) (condition : Condition) (sorted columns : Bool) (labels : Option Labelling)
         (messages : List MessageView) → PrintsGroups fields sorted columns labels

@@ -22,7 +22,7 @@ AddsUp messages = summed_message_counts messages
 -- The headline: what a command that ends without a fault has written.
 
 -- `sum`: each File is read by itself, and has no skipped sets, unless such are allowed. The text is a table of groups
--- of the rows of all Files that meet each option, by the labels of the map or the list. Each of these rows is in
+-- of those rows of all Files that meet each option, by the labels of the map or the list. Each of these rows is in
 -- exactly one group, once, and no other row is. `messages`: each File is read by itself, and the text has a line for
 -- each message. The counts of a File's lines add up to those that `info` prints for it.
 abbrev pub IsHeadline : Command → ByFile Text → List Text → Text → Type 0

@@ -37,16 +37,7 @@ within f [] i y (k, below, is) = absurd (omega arith)
 within f (x ∷ all) zero y has = (omega arith, λ d. has)
 within f (x ∷ all) (suc i) y has = let (below, has') = within f all i y has in (omega arith, has')
 
--- lists of texts that are equal compare as equal, and no others do
-equal : (o : Ordering) → is_eq o ≡ true → o ≡ Equal
-equal Less e = absurd (true≢false (sym e))
-equal Equal e = refl
-equal Greater e = absurd (true≢false (sym e))
-
-equal_from : (this that : List (List ℕ)) → this ≡ that → slice_cmp (slice_cmp nat_cmp) this that ≡ Equal
-equal_from this that e =
-    equal (slice_cmp (slice_cmp nat_cmp) this that) (sym (lists_ties (slice_cmp nat_cmp) texts_ties this that) ∙ (pointwise_decides bytes_decides this that).1 e)
-
+-- lists of texts that compare as equal are equal
 same_from : (this that : List (List ℕ)) → slice_cmp (slice_cmp nat_cmp) this that ≡ Equal → this ≡ that
 same_from this that e = (pointwise_decides bytes_decides this that).0 (lists_ties (slice_cmp nat_cmp) texts_ties this that ∙ ap is_eq e)
 
@@ -107,10 +98,7 @@ module _ (label : AddressOf → Option Label) (fields : List KeyField) (rows : L
             | inl less ↦ absurd (apart i j d less below_j e)
             | inr le ↦ elim (cases_lt j i) [ inl less ↦ absurd (apart j i d less below_i (sym e)) | inr ge ↦ omega arith ]
           ] in (
-            (
-              λ same. equal_from this that (same-fields label fields r s (sym key_r ∙ ap (λ (n : ℕ). part_key key (slice_index_or all n d)) same ∙ key_s)),
-              λ e. one (same_from this that e),
-            ),
+            (λ same. same-fields label fields r s (sym key_r ∙ ap (λ (n : ℕ). part_key key (slice_index_or all n d)) same ∙ key_s), one),
             λ is_sorted less.
                 let after : is_lt (slice_cmp (slice_cmp nat_cmp) that this) ≡ false =
                 sym (ap is_lt (compare-keys label fields s r)) ∙ sym (λ t. is_lt (slice_cmp compare_parts (key_s t) (key_r t)))

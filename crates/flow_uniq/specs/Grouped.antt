@@ -5,7 +5,7 @@ use Rattle.std.specs.List.Sorted.{IsPermutation}
 use Rattle.std.specs.Option.{option_map_or}
 use Rattle.std.specs.Ordering.{is_eq, is_lt, nat_cmp}
 use Rattle.std.specs.declared.cmp.Ordering.{Ordering}
-use Rattle.std.specs.declared.cmp.Ordering.TheVariants.{Equal, Less}
+use Rattle.std.specs.declared.cmp.Ordering.TheVariants.{Less}
 use Rattle.prefix_keys.specs.Block.{width_of}
 use Rattle.prefix_keys.specs.Text.{AddressOf}
 use Rattle.pmap_model.specs.MapModel.{Label}
@@ -59,7 +59,7 @@ module _ (label : AddressOf → Option Label) where
     pub once : IsPermutation rows (flat_map (λ g. g) groups)
     pub together : (i j : ℕ) (r s : RowView)
         → Contains (slice_index_or groups i []) r → Contains (slice_index_or groups j []) s
-        → (i ≡ j ↔ compare_by fields r s ≡ Equal)
+        → (i ≡ j ↔ map (in_field r) fields ≡ map (in_field s) fields)
         × (sorted ≡ true → i < j → compare_by fields r s ≡ Less)
 
 -- Below: only contracts of parts and proofs use these; no promise of the program rests on them.

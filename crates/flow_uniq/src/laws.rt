@@ -30,8 +30,8 @@ pub fn merged_groups_divide_the_rows()
     ensures all { MergedAreAll }
 {}
 
-/// The rows are grouped by their fields, without regard to keys. Their groups by keys have the key of the first row of each
-/// of these groups, and sum its rows.
+/// `row_groups` divides the rows by what they have in the fields. The groups by keys are the same groups: each has the key
+/// of its first row, and sums its rows.
 pub fn rows_are_grouped_by_fields()
     ensures grouped { (fields : List KeyField) (label : AddressOf → Option Label) (sorted : Bool) (rows : List RowView) →
         AreGrouped label fields sorted rows (map (λ g. g.0 ∷ g.1) (row_groups label fields sorted rows)) }

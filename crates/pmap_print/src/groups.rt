@@ -86,7 +86,7 @@ fn part_length(part: KeyPart<'_>) -> u8
 }
 
 // Prints a part of a key in a column of this width, which isn't the last one. The text of a missing label is empty.
-// `PADDED` is as for `print_lines`.
+// See `print_lines` for `PADDED`.
 fn print_part<S: Sink, const PADDED: bool>(
     out: &mut S,
     width: u8,
@@ -103,7 +103,7 @@ fn print_part<S: Sink, const PADDED: bool>(
     }
 }
 
-// Prints the line of a group, with columns of these widths. `PADDED` is as for `print_lines`.
+// Prints the line of a group, with columns of these widths. See `print_lines` for `PADDED`.
 fn print_group<S: Sink, const PADDED: bool>(
     out: &mut S,
     group: &Group<'_>,
@@ -210,7 +210,7 @@ impl Columns {
 //
 // `PADDED` is `true` in the call with columns. It changes no text, but gives each of the two calls functions of its own,
 // which LLVM inlines because they have one caller. So without columns no width is looked at, which is faster.
-// `#[inline(always)]` would have no effect: the functions are so large that a proved build drops it.
+// `#[inline(always)]` would have no effect: `print_group` is so large that a proved build drops it.
 fn print_lines<'a, S: Sink, const PADDED: bool>(
     out: &mut S,
     groups: &'a Groups,
