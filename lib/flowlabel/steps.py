@@ -95,10 +95,15 @@ class Steps:
         shared.need(words[0], package)
         with subprocess.Popen(words, stdin=subprocess.PIPE, stdout=subprocess.PIPE, stderr=subprocess.PIPE, text=True,
                               errors="surrogateescape") as self.program:
-            # A signal may have come while the program was started.
-            if self.signal and not self.is_quiet:
-                self.program.terminate()
-            output, said = self.program.communicate(stdin)
+            try:
+                # A signal may have come while the program was started.
+                if self.signal and not self.is_quiet:
+                    self.program.terminate()
+                output, said = self.program.communicate(stdin)
+            except BaseException:
+                # Outside `with`, a signal ends the script here, and all later signals are ignored.
+                self.program.kill()
+                raise
         status, self.program = self.program.returncode, None
         self.check()
         if status or silent and said:

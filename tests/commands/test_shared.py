@@ -48,6 +48,9 @@ BODIES = (
      "odd: sh -c echo first >&2; echo second >&2; exit 3: first\n"),
     ("import steps; steps.Steps().run('no-such-program', package='none')", 1, "",
      "odd: there is no no-such-program (Debian: none)\n"),
+    # The program that runs would make another file later.
+    ("import steps; steps.Steps().run(sys.executable, '-c', 'import os, time; os.kill(os.getppid(), 15); "
+     "time.sleep(60); open(\"late\", \"x\")', package='python3')", -15, "", ""),
     ("os.environ['FLOWLABEL'] = '/bin/sh'; shared.say(shared.flowlabel('-c', 'echo $0', 'x'))", 0, "x\n\n", ""),
     ("os.environ['FLOWLABEL'] = '/bin/sh'; shared.flowlabel('-c', 'exit 3')", 3, "", ""),
     ("os.environ['FLOWLABEL'] = '/bin/sh'; shared.flowlabel('-c', 'kill -9 $$')", 137, "", ""),
