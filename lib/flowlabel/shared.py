@@ -159,9 +159,10 @@ def passed(options, *names):
 
 
 def whole_number(text):
-    """Returns the number that a text of digits is, such as that of an option. Raises ValueError for another text."""
+    """Returns the number that a text of digits is: the type of an option. Raises ArgumentTypeError for another text,
+    whose line names the text. Of a ValueError argparse would print only the name of this function."""
     if not (text.isascii() and text.isdigit()):
-        raise ValueError(f"no number: {text}")
+        raise argparse.ArgumentTypeError(f"not a whole number: {text}")
     return int(text)
 
 

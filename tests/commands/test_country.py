@@ -190,9 +190,12 @@ class Maps(Sources):
         self.assertEqual(self.country("missing/map.txt", "nested.csv"),
                          (4, "", "flowlabel-country: missing/map.txt: No such file or directory\n"))
 
-    @rows(("",), ("map.txt",), ("--column 0 map.txt two.csv",), ("--column two.csv",))
-    def test_usage(self, words):
-        self.assertEqual(self.country(*words.split())[0], 2)
+    @rows(("", "the following arguments are required: MAP, SOURCE"),
+          ("map.txt", "the following arguments are required: SOURCE"),
+          ("--column 0 map.txt two.csv", "argument --column: not the number of a column: 0"),
+          ("--column two.csv", "argument --column: not the number of a column: two.csv"))
+    def test_usage(self, words, line):
+        self.assertEqual(self.country(*words.split()), (2, "", f"flowlabel-country: {line}\n"))
 
 
 @functools.cache

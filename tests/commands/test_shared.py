@@ -36,6 +36,8 @@ BODIES = (
     ("raise shared.Failure('why', 3)", 3, "", "odd: why\n"),
     ("raise shared.usage(__doc__)", 2, "", "odd: usage: odd WORD.. | odd --other (--help prints more)\n"),
     ("shared.Parser(__doc__).parse_args(['--none'])", 2, "", "odd: unrecognized arguments: --none\n"),
+    ("p = shared.Parser(__doc__); p.add_argument('--n', type=shared.whole_number); p.parse_args(['--n', '5k'])", 2, "",
+     "odd: argument --n: not a whole number: 5k\n"),
     ("bytearray(1 << 62)", 3, "", "odd: out of memory\n"),
     ("open('no\\nfile')", 4, "", "odd: no\\x0afile: No such file or directory\n"),
     ("open(b'/')", 4, "", "odd: /: Is a directory\n"),
