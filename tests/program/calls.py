@@ -257,13 +257,13 @@ CALLS = (
         ("::ffff:10.0.0.0/104", "::ffff:a00:0/104"), (f"ffff{7 * ':ffff'}/128", f"ffff{7 * ':ffff'}/128"),
         # RFC 4291, section 2.3.
         ("2001:DB8:0:CD30:123:4567:89AB:CDEF/60", "2001:db8:0:cd30::/60"))),
-    # pmap_text
-    *(Call("read_map", (text,), shown, LINE_FAILED) for text, shown in MAPS),
-    *(Call("read_map", (text,), shown, allocates=False) for text, shown in (
-        (f"default {256 * 'x'}", "line 1: bad label;"), ("10.0.0.0/33 A;", "line 1: bad block length;"),
-        ("mode ipv4;10.0.0.9 2001:db8::1 x", "line 2: an address of the other version;"))),
-    *(Call("read_list", (text,), shown, LINE_FAILED) for text, shown in LISTS),
-    Call("read_list", (";#;",), "ipv4;", allocates=False),
+    # pmap_model
+    *(Call("Name::new", (text,), f"{text};") for text in ("A", "Some Net", 255 * "x")),
+    Call("Entries::push", ("", "10.0.0.0/8"), "Ok;10.0.0.0/8 0;", before=""),
+    # An entry of the other version is stored in another way, and its place is still the last.
+    Call("Entries::push", ("10.0.0.0/8,10.0.0.0/9", "::/0"), "Ok;10.0.0.0/8 0;10.0.0.0/9 1;::/0 2;",
+         before="10.0.0.0/8 0;10.0.0.0/9 1;"),
+    Call("Entries::push", ("::/0", "10.0.0.0/8"), "Ok;::/0 0;10.0.0.0/8 1;", before="::/0 0;", allocates=False),
     Call("Labels::add", ("", "A"), "Ok 0;A;", before=""),
     Call("Labels::add", ("A", "more than 16 bytes"), "Ok 1;A;more than 16 bytes;", before="A;"),
     Call("Labels::add", ("A,B", "A"), "Ok 0;A;B;", before="A;B;", allocates=False),
@@ -272,6 +272,13 @@ CALLS = (
     Call("Labels::add_new", ("A", "seventeen bytes ."), "Ok 1;A;seventeen bytes .;", before="A;"),
     Call("Labels::add_new", ("A,B", "A"), "Ok 0;A;B;", before="A;B;", allocates=False),
     Call("Labels::copy", ("A,B,UNKNOWN",), "A;B;UNKNOWN;"),
+    # pmap_text
+    *(Call("read_map", (text,), shown, LINE_FAILED) for text, shown in MAPS),
+    *(Call("read_map", (text,), shown, allocates=False) for text, shown in (
+        (f"default {256 * 'x'}", "line 1: bad label;"), ("10.0.0.0/33 A;", "line 1: bad block length;"),
+        ("mode ipv4;10.0.0.9 2001:db8::1 x", "line 2: an address of the other version;"))),
+    *(Call("read_list", (text,), shown, LINE_FAILED) for text, shown in LISTS),
+    Call("read_list", (";#;",), "ipv4;", allocates=False),
     # label_trie
     Call("Trie::build", (NESTED, "10.1.1.1,11.255.255.255,12.0.0.0,9.255.255.255"), "B;B;UNKNOWN;UNKNOWN;"),
     Call("Trie::build", OF_SIXES, SIXES_LABELS),
@@ -314,6 +321,10 @@ CALLS = (
         ("01040002 80020004 0000", "", "Truncated at 0;"), ("01030002", "options", "Truncated at 0;"),
         ("01030002 0003 00950004 00290008", "options", "BadScope at 0;"),
         ("00020000", "options", "BadTemplateId at 0;"))),
+    # The least length of a value of variable length is 1.
+    *(Call("Fields::from_vec", (text,), f"fields {text};least {least} runs {runs};") for text, least, runs in (
+        ("8:4 12:4 4:1", 9, 9), ("8:4 82:65535 12:4 4:1 210:65535", 11, "4 5 0"), ("210:0", 0, 0),
+        ("82:65535 210:65534", 65535, "0 65534"))),
     Call("TemplateTable::set", ("", TEMPLATE), f"Ok;{FIVE_FIELDS}", before="no template;"),
     Call("TemplateTable::set", (OTHER_SCOPED, TEMPLATE), f"Ok;{FIVE_FIELDS}", before=OTHER_SHOWN),
     # ipfix_read
