@@ -305,7 +305,7 @@ def opened(name=None):
 
 def regular(name, follow=False):
     """Opens a regular file to read its bytes. A pipe isn't waited for, and a link isn't followed unless this is wanted,
-    whoever plants them when."""
+    no matter who plants them or when."""
     wanted = os.O_NONBLOCK if follow else os.O_NONBLOCK | os.O_NOFOLLOW
     try:
         file = open(name, "rb", opener=lambda path, flags: os.open(path, flags | wanted))

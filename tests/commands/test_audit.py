@@ -125,7 +125,7 @@ FLOWS = (
           (((34, 2),), struct.pack(">H", 10), True), (((34, 2),), struct.pack(">H", 1), False),
           (((82, 65535), (50, 4)), b"\3abc" + struct.pack(">I", 10), True),
           (((309, 2), (310, 4)), struct.pack(">HI", 3, 30), True), (((309, 2), (310, 4)), bytes(6), False),
-          # No number of an exporter is so long.
+          # Exporters send no numbers this long.
           (((34, 400),), b"\xff" * 400, False), (((305, 4), (306, 65535)), bytes(3) + b"\1\xc8" + b"\xff" * 200,
                                                    False))),
     (((1, template(256, *FOUR, *SUMS, (34, 4)),

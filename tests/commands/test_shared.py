@@ -14,7 +14,7 @@ import signal
 from support import ROOT, Case, closed_pipe, command, load, outcome, read, rows, texts, write, write_program
 
 LIBRARY = ROOT / "lib/flowlabel"
-# What a script of the tests needs.
+# The files that a script of the tests needs.
 LIBRARY_FILES = [f"lib/flowlabel/{name}" for name in ("program", "shared.py", "steps.py")]
 # Addresses as ipaddress reads them, and as flowlabel does: a number may have zeros before it, up to three digits.
 ADDRESSES = ("0.0.0.0", "10.1.2.3", "255.255.255.255", "::", "::1", "2001:db8::8:800:200C:417A", "::ffff:10.1.2.3",

@@ -306,7 +306,8 @@ class Statuses(Case):
 
 
 class Sized:
-    """A map of so many mappings, and a File of so many messages of 14 rows, within seconds of CPU time and kB."""
+    """A map of this many mappings, and a File of this many messages of 14 rows, with limits on CPU seconds and memory in
+    kB."""
 
     @rows(("label --pmap map.txt 10.1.2.3",), ("cat --pmap map.txt",), ("info day.ipfix",),
           ("uniq --fields sip,dport,dst-label --sort-output --pmap map.txt day.ipfix",))
