@@ -108,8 +108,10 @@ module _ {R : Type 0} (input : R → InputView) where
     pub gives : Gives reading is stops old new result
 
   -- the name of the file, and its text
-  abbrev pub IsText : Option (Source R) → Option (Source R) → Result (Bor Text × Vec ℕ) RunFault → Type 0
-  IsText old = IsRead {A = Text} Ok (λ text read. (text ≡ read.1.items) × (read.0.now ≡ name_in old)) (λ _. ⊤) old
+  abbrev pub IsText : {V : Type 0} → (V → Text) → Option (Source R) → Option (Source R)
+      → Result (Bor Text × V) RunFault → Type 0
+  IsText text_of old =
+      IsRead {A = Text} Ok (λ text read. (text ≡ text_of read.1) × (read.0.now ≡ name_in old)) (λ _. ⊤) old
 
   -- the value that the text is read as
   abbrev pub Decodes : {F A V : Type 0} → (F → BytesFault) → (Text → Result A F) → (V → A) → Option (Source R)

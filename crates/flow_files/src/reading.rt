@@ -10,10 +10,10 @@ ghost use Rattle.flow_files.specs.Reports.{Decodes, IsFresh, IsText};
 use crate::bytes_fault::BytesFault;
 use crate::fault::RunFault;
 use crate::inputs::Source;
-use flow_io::{Input, ReadStop, read_whole};
+use flow_io::{Input, ReadStop, fill, read_whole};
 use pmap_cert::{Certificate, read_cert_with_hashing, text_of_format_is_read_or_has_a_fault};
 use pmap_model::{KeyHashing, MapText, PrefixList};
-use pmap_text::{read_list_with_hashing, read_map_with_hashing};
+use pmap_text::{Pieces, read_list_with_hashing, read_map_with_hashing};
 use std::alloc::Global;
 
 /// Reads the rest of a file, and returns its name and its text. Both are empty if the file isn't there.
@@ -22,7 +22,7 @@ pub fn read<'a, R: Input>(
     file: &mut Option<Source<'a, R>>,
 ) -> Result<(&'a str, Vec<u8>), RunFault<'a>>
     requires { IsFresh R.input file.old }
-    ensures { IsText R.input file.old file.new result }
+    ensures { IsText R.input (λ text. text.items) file.old file.new result }
 {
     let Some(source) = file else {
         return Ok(("", Vec::new(alloc)));
@@ -31,6 +31,35 @@ pub fn read<'a, R: Input>(
         Ok(text) => Ok((source.name, text)),
         Err(ReadStop::ReadFault) => Err(RunFault::CannotRead(source.name)),
         Err(ReadStop::NoMemory) => Err(RunFault::NoMemory),
+    }
+}
+
+// The number of bytes that are requested from a map's reader at a time.
+const CHUNK: usize = 65_536;
+
+// Reads the rest of a file in pieces, and returns its name and its text. Both are empty if the file isn't there. A text
+// that never ends is answered with `NoMemory`, since each piece is kept.
+fn read_pieces<'a, R: Input>(
+    alloc: Global,
+    file: &mut Option<Source<'a, R>>,
+) -> Result<(&'a str, Pieces), RunFault<'a>>
+    requires { IsFresh R.input file.old }
+    ensures { IsText R.input (λ text. text) file.old file.new result }
+{
+    let mut text = Pieces::new(alloc);
+    let Some(source) = file else {
+        return Ok(("", text));
+    };
+    let mut chunk = Vec::new(alloc);
+    chunk.resize(CHUNK, 0)?;
+    loop {
+        let Ok(count) = fill(&mut source.reader, chunk.as_mut_slice()) else {
+            return Err(RunFault::CannotRead(source.name));
+        };
+        text = text.with(&chunk[..count])?;
+        if count < chunk.len() {
+            return Ok((source.name, text));
+        }
     }
 }
 
@@ -43,8 +72,8 @@ pub fn read_map<'a, R: Input>(
     requires { IsFresh R.input file.old }
     ensures { Decodes R.input InMap map_reading map_of file.old file.new result }
 {
-    let (name, text) = read(alloc, file)?;
-    match read_map_with_hashing(alloc, text.as_slice(), hashing) {
+    let (name, text) = read_pieces(alloc, file)?;
+    match read_map_with_hashing(alloc, text, hashing) {
         Ok(map) => Ok(map),
         Err(fault) => Err(RunFault::of(name, BytesFault::Map(fault))),
     }

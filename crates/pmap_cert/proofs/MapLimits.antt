@@ -14,6 +14,7 @@ use Rattle.prefix_keys.specs.declared.text.BlockFault.TheVariants as block_fault
 use Rattle.prefix_keys.specs.declared.version.Version.{Version}
 use Rattle.pmap_model.proofs.Finds.{find_passes}
 use Rattle.pmap_model.proofs.LabelTexts.{IsLabelTable-with_label, has_label-with_label, with_label-known, with_label-new}
+use Rattle.pmap_text.proofs.MapLines.{either, whatever}
 use Rattle.pmap_text.specs.Declarations.{conflicts, declared_text, label_number, meant_text, with_declared}
 use Rattle.pmap_model.specs.Label.{IsLabelTable, has_label, is_label, with_label}
 use Rattle.pmap_model.specs.Steps.{◌>>=◌}
@@ -34,19 +35,11 @@ IsText x = IsTrue (is_label x)
 abbrev IsDeclared : ℕ × Label → Type 0
 IsDeclared d = IsText d.1
 
--- a property of a step's result carries over to what follows from it, and a property of both cases to a choice
+-- a property of a step's result carries over to what follows from it
 onward : {A B E : Type 0} (P : A → Type 0) (Q : B → Type 0) (r : Result A E) (f : A → Result B E) → IfOk r P
     → ((x : A) → P x → IfOk (f x) Q) → IfOk (r >>= f) Q
 onward P Q (Ok x) f is each = each x is
 onward P Q (Err fault) f is each = tt
-
-whatever : {A B E : Type 0} (Q : B → Type 0) (r : Result A E) (f : A → Result B E) → ((x : A) → IfOk (f x) Q) → IfOk (r >>= f) Q
-whatever Q (Ok x) f each = each x
-whatever Q (Err fault) f each = tt
-
-either : {A E : Type 0} (P : A → Type 0) (b : Bool) (r s : Result A E) → (b ≡ true → IfOk r P) → IfOk s P → IfOk (cond b r s) P
-either P true r s first second = first refl
-either P false r s first second = second
 
 label_of-text : (rest : List ℕ) → IfOk (label_of rest) IsText
 label_of-text [] = tt

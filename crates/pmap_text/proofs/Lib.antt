@@ -6,3 +6,5 @@ pub mod Places
 pub mod MovedBlocks
 pub mod ProgressSteps
 pub mod Entering
+pub mod MapLines
+pub mod EndedLines

@@ -1,9 +1,10 @@
-use Rattle.std.specs.Prelude.{◌≡◌, ◌≢◌, ◌||◌, ◌&&◌, ◌==◌, ◌⊎◌, ℕ, Bool, true, false, if◌then◌else◌, List, [], ◌∷◌, ◌++◌, Option, Some, None, Result, Ok, Err, IfErr, IfOk, OnErr, OnOk, slice_get, take, unwrap_or}
+use Rattle.std.specs.Prelude.{◌≡◌, ◌≢◌, ◌+◌, ◌≤◌, ◌||◌, ◌&&◌, ◌==◌, ◌⊎◌, All, length, ℕ, Bool, true, false, if◌then◌else◌, List, [], ◌∷◌, ◌++◌, Option, Some, None, Result, Ok, Err, IfErr, IfOk, OnErr, OnOk, slice_get, take, unwrap_or}
 use Rattle.std.specs.List.{list_any, IsDistinct}
 use Rattle.std.specs.Option.{option_map_or}
 use Rattle.std.specs.Ordering.{is_eq, nat_cmp, ordering_then}
 use Rattle.std.specs.declared.cmp.Ordering.{Ordering}
 use Rattle.std.specs.Char.{is_ascii_hexdigit}
+use Rattle.std.specs.Global.{Vec}
 use Rattle.prefix_keys.specs.Block.{width_of}
 use Rattle.prefix_keys.specs.Text.{AddressOf, address_of, block_of_text, is_digit}
 use Rattle.prefix_keys.specs.declared.version.Version.TheVariants.{V4}
@@ -15,6 +16,7 @@ pub use Rattle.pmap_text.specs.declared.reading.leading.Word.TheVariants.{Addres
 use Rattle.pmap_text.specs.declared.reading.leading.Word.TheVariants.{Block as block_word}
 use Rattle.pmap_text.specs.Declarations.{meant_text}
 use Rattle.pmap_text.specs.Reading.{after_word, block_line, lines_of, lines_read, no_lines, range_line, unknown, Earlier, MapFault, MapFaultKind, DuplicateBlock, NoMemory, Form, has_prefix, has_room}
+use Rattle.pmap_text.specs.declared.reading.form.Form.TheVariants.{Map as map_form}
 
 -- Prefixes of a text, for the contracts of private functions. Callers of the crate need not read them.
 
@@ -102,14 +104,37 @@ pub record ReadsLine (old new : Earlier) (line : Result Earlier MapFaultKind)
 abbrev pub has_label_room : Earlier → Bool → Label → Bool
 has_label_room earlier room label = room && has_room earlier.table (meant_text earlier.declared label)
 
--- the lines of a text were read up to a fault, except for repeated blocks, or until there were more entries than the
--- limit; if the last entry of these lines is then the first with the block of an earlier one, it is the first fault
-pub record HasRead (form : Form) (text : List ℕ) (limit : ℕ) (reading : Earlier)
+-- the lines of this text are read, after `before` others that led to the state `old`, with this result: it may depend on
+-- the lines that follow the text
+abbrev pub ReadsTo : Form → Earlier → ℕ → List ℕ → (List (List ℕ) → Result Earlier MapFault) → Type 0
+ReadsTo form old before text result =
+    (more : List (List ℕ)) → lines_read form before (Ok old) (lines_of text ++ more) ≡ result more
+
+-- The lines of a text were read up to a fault, except for repeated blocks, or until there were more entries than the
+-- limit. If the last entry of these lines is then the first with the block of an earlier one, it is the first fault. No
+-- line of a map adds an entry.
+pub record HasRead (form : Form) (old : Earlier) (before : ℕ) (text : List ℕ) (limit : ℕ) (reading : Earlier)
     (result : Result ℕ MapFault) : Type 0 where
-  pub ok : OnOk result (limit ≡ 18446744073709551615 → HasDistinctKeys reading.prefixes
-      → text_read form text ≡ Ok reading)
+  pub ok : IfOk result (λ number. limit ≡ 18446744073709551615 → HasDistinctKeys reading.prefixes
+      → ReadsTo form old before text (λ more. lines_read form number (Ok reading) more))
+  pub number : IfOk result (λ number. number ≤ before + length text)
+  pub map : form ≡ map_form → old.prefixes ≡ [] → reading.prefixes ≡ []
   pub repeat : IfOk result (λ number. IsFirstRepeat reading.prefixes (Some limit)
-      → text_read form text ≡ Err (record { kind = DuplicateBlock; line = number }))
+      → ReadsTo form old before text (λ _. Err (record { kind = DuplicateBlock; line = number })))
   pub err : IfErr result (λ fault. HasDistinctKeys reading.prefixes → fault.kind ≢ NoMemory
-      → text_read form text ≡ Err fault)
+      → ReadsTo form old before text (λ _. Err fault))
   pub memory : IfErr result (λ fault. fault.kind ≡ NoMemory → fault.line ≡ 0)
+
+-- Texts in pieces.
+
+-- the last byte is a line feed
+abbrev pub EndsLine : List ℕ → Type 0
+EndsLine text = (front : List ℕ) × (text ≡ front ++ 10 ∷ [])
+
+abbrev pub AreEnded : List (Vec ℕ) → Type 0
+AreEnded pieces = All (λ p. EndsLine p.items) pieces
+
+-- the text of these pieces and the last one
+abbrev pub text_in : List (Vec ℕ) → List ℕ → List ℕ
+text_in [] last = last
+text_in (p ∷ ps) last = p.items ++ text_in ps last

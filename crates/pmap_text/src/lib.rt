@@ -16,9 +16,11 @@
 #![tactic(auto)]
 
 mod fault;
+mod pieces;
 mod reading;
 
 pub use fault::{MapFault, MapFaultKind};
+pub use pieces::Pieces;
 pub use pmap_model::{
     Entries, Entry, KeyHashing, LabelId, Labels, MapText, Name, PrefixList, Statement, Statements,
     is_label,

@@ -1,9 +1,12 @@
 //! Reading map texts and list texts line by line.
-ghost use Rattle.std.specs.Prelude.{◌≡◌, ◌≢◌, Ok, Err, IfOk, IfErr};
-ghost use Rattle.pmap_text.specs.Inner.{HasDistinctKeys, HasRead, text_read};
-ghost use Rattle.pmap_text.specs.Reading.{ReturnsList, ReturnsMap, no_lines, NoMemory};
+ghost use Rattle.std.specs.Prelude.{◌≡◌, ◌≢◌, ◌+◌, ◌^◌, ◌<◌, ◌≤◌, Ok, Err, IfOk, IfErr, length};
+ghost use Rattle.pmap_model.specs.MapText.{map_of};
+ghost use Rattle.pmap_text.specs.Inner.{AreEnded, HasDistinctKeys, HasRead, map_from, text_in, text_read};
+ghost use Rattle.pmap_text.specs.Reading.{ReturnsList, ReturnsMap, NoMemory};
+ghost use Rattle.pmap_text.specs.declared.reading.form.Form.TheVariants.{List as list_form, Map as map_form};
 
 use crate::fault::{MapFault, MapFaultKind};
+use crate::pieces::Pieces;
 use crate::reading::Reading;
 use crate::reading::form::Form;
 use crate::reading::lines::split_content;
@@ -24,14 +27,21 @@ fn fault_at(kind: MapFaultKind, number: u64) -> MapFault
     MapFault { kind, line }
 }
 
-// Reads the lines of a text of this form up to the first fault, or until there are more entries than the limit. Returns
-// the number of these lines. An entry may have the block of an earlier one.
-fn read_on(reading: &mut Reading, form: Form, text: &[u8], limit: usize) -> Result<u64, MapFault>
-    requires { reading.old ≡ no_lines }
-    ensures { HasRead form text.now limit reading.new result }
+// Reads the lines of a text of this form, which follow `before` other lines, up to the first fault, or until there are
+// more entries than the limit. Returns the number of all lines. An entry may have the block of an earlier one.
+fn read_on(
+    reading: &mut Reading,
+    form: Form,
+    text: &[u8],
+    limit: usize,
+    before: u64,
+) -> Result<u64, MapFault>
+    requires few { length reading.old.prefixes ≤ limit }
+    requires fits { before + length text.now < 2 ^ 64 }
+    ensures { HasRead form reading.old before text.now limit reading.new result }
 {
     let mut rest = text;
-    let mut number = 0;
+    let mut number = before;
     while !rest.is_empty() && reading.entry_count() <= limit {
         let (content, after) = split_content(rest);
         number += 1;
@@ -45,12 +55,12 @@ fn read_on(reading: &mut Reading, form: Form, text: &[u8], limit: usize) -> Resu
 
 // Returns the fault of the first entry with the block of an earlier one, given its index. Its line is found by reading
 // the text again up to this entry.
-fn repeat_at(alloc: Global, form: Form, text: &[u8], hashing: KeyHashing, index: usize) -> MapFault
-    ensures err { result.kind ≢ NoMemory → text_read form text.now ≡ Err result }
+fn repeat_at(alloc: Global, text: &[u8], hashing: KeyHashing, index: usize) -> MapFault
+    ensures err { result.kind ≢ NoMemory → text_read list_form text.now ≡ Err result }
     ensures memory { result.kind ≡ NoMemory → result.line ≡ 0 }
 {
     let mut reading = Reading::new(alloc, hashing);
-    let end = read_on(&mut reading, form, text, index);
+    let end = read_on(&mut reading, Form::List, text, index, 0);
     match (end, reading.first_repeat()) {
         (Ok(line), Ok(Some(first))) if first == index => MapFault {
             kind: MapFaultKind::DuplicateBlock,
@@ -60,27 +70,62 @@ fn repeat_at(alloc: Global, form: Form, text: &[u8], hashing: KeyHashing, index:
     }
 }
 
-// Reads the lines of a text of this form, up to its first fault.
-fn read_lines(
-    alloc: Global,
-    form: Form,
-    text: &[u8],
-    hashing: KeyHashing,
-) -> Result<Reading, MapFault>
-    ensures ok { IfOk result (λ lines. text_read form text.now ≡ Ok lines) }
+// Reads the lines of a list text, up to its first fault.
+fn read_list_lines(alloc: Global, text: &[u8], hashing: KeyHashing) -> Result<Reading, MapFault>
+    ensures ok { IfOk result (λ lines. text_read list_form text.now ≡ Ok lines) }
     ensures distinct { IfOk result (λ lines. HasDistinctKeys lines.prefixes) }
-    ensures err { IfErr result (λ fault. fault.kind ≢ NoMemory → text_read form text.now ≡ Err fault) }
+    ensures err { IfErr result (λ fault. fault.kind ≢ NoMemory → text_read list_form text.now ≡ Err fault) }
     ensures memory { IfErr result (λ fault. fault.kind ≡ NoMemory → fault.line ≡ 0) }
 {
     let mut reading = Reading::new(alloc, hashing);
-    let end = read_on(&mut reading, form, text, usize::MAX);
+    let end = read_on(&mut reading, Form::List, text, usize::MAX, 0);
     let fault = match (reading.first_repeat(), end) {
         (Ok(None), Ok(_)) => return Ok(reading),
         (Ok(None), Err(fault)) => fault,
-        (Ok(Some(index)), _) => repeat_at(alloc, form, text, hashing, index),
+        (Ok(Some(index)), _) => repeat_at(alloc, text, hashing, index),
         (Err(_), _) => fault_at(MapFaultKind::NoMemory, 0),
     };
     Err(fault)
+}
+
+// Reads the lines of a map text, up to its first fault. It is in pieces that end with a line feed, each of which is
+// freed when its lines are read, and a last one.
+fn read_pieces(
+    alloc: Global,
+    ended: Vec<Vec<u8>>,
+    last: &[u8],
+    hashing: KeyHashing,
+) -> Result<Reading, MapFault>
+    requires ended { AreEnded ended.items }
+    requires fits { length (text_in ended.items last.now) < 2 ^ 64 }
+    ensures ok { IfOk result (λ lines. text_read map_form (text_in ended.items last.now) ≡ Ok lines) }
+    ensures err { IfErr result (λ fault. fault.kind ≢ NoMemory
+        → text_read map_form (text_in ended.items last.now) ≡ Err fault) }
+    ensures memory { IfErr result (λ fault. fault.kind ≡ NoMemory → fault.line ≡ 0) }
+{
+    let mut reading = Reading::new(alloc, hashing);
+    let mut number = 0;
+    for piece in ended {
+        number = read_on(
+            &mut reading,
+            Form::Map,
+            piece.as_slice(),
+            usize::MAX,
+            number,
+        )?;
+    }
+    read_on(&mut reading, Form::Map, last, usize::MAX, number)?;
+    Ok(reading)
+}
+
+// Returns the map of the lines of a text.
+fn map_from_lines(reading: Reading) -> Result<MapText, MapFault>
+    ensures ok { IfOk result (λ map. map_of map ≡ map_from reading) }
+    ensures err { IfErr result (λ fault. (fault.kind ≡ NoMemory) × (fault.line ≡ 0)) }
+{
+    reading
+        .into_map()
+        .map_err(|_| fault_at(MapFaultKind::NoMemory, 0))
 }
 
 /// Reads a map text.
@@ -120,21 +165,22 @@ fn read_lines(
 pub fn read_map(alloc: Global, text: &[u8]) -> Result<MapText, MapFault>
     ensures { ReturnsMap text.now result }
 {
-    read_map_with_hashing(alloc, text, KeyHashing::known())
+    let reading = read_pieces(alloc, Vec::new(alloc), text, KeyHashing::known())?;
+    map_from_lines(reading)
 }
 
-/// Reads a map text like [`read_map`], but hashes labels with these numbers. The result does not depend on them.
+/// Reads a map text like [`read_map`], but hashes labels with these numbers, on which the result does not depend. Each
+/// piece of the text is freed when its lines are read, so that the text and its mappings aren't in memory together.
 pub fn read_map_with_hashing(
     alloc: Global,
-    text: &[u8],
+    text: Pieces,
     hashing: KeyHashing,
 ) -> Result<MapText, MapFault>
-    ensures { ReturnsMap text.now result }
+    ensures { ReturnsMap text result }
 {
-    let reading = read_lines(alloc, Form::Map, text, hashing)?;
-    reading
-        .into_map()
-        .map_err(|_| fault_at(MapFaultKind::NoMemory, 0))
+    let (ended, last) = text.into_parts();
+    let reading = read_pieces(alloc, ended, last.as_slice(), hashing)?;
+    map_from_lines(reading)
 }
 
 /// Reads a list text. The longest block that covers an address decides, and an address that no block covers has no
@@ -162,6 +208,6 @@ pub fn read_list_with_hashing(
 ) -> Result<PrefixList, MapFault>
     ensures { ReturnsList text.now result }
 {
-    let reading = read_lines(alloc, Form::List, text, hashing)?;
+    let reading = read_list_lines(alloc, text, hashing)?;
     Ok(reading.into_list())
 }
