@@ -132,8 +132,9 @@ are_texts input files role.Flows = may_have (view_of input files.flows)
 
 -- What follows from the text of a file that is to be read whole.
 
-only_text : {R : Type 0} {input : R → InputView} {old new : Option (Source R)} {name : Bor Text} {text : Vec ℕ} → IsText input old new (Ok (name, text))
-    → (other : Text) → MayHave (view_of input new) other → (other ≡ text.items) × (name.now ≡ name_in old)
+only_text : {R T : Type 0} {input : R → InputView} {text_of : T → Text} {old new : Option (Source R)} {name : Bor Text} {text : T}
+    → IsText input text_of old new (Ok (name, text)) → (other : Text) → MayHave (view_of input new) other
+    → (other ≡ text_of text) × (name.now ≡ name_in old)
 only_text whole other may = let (found, same, (is, named)) = whole.gives.1 other may in (cc, named)
 
 -- a fault of one reading is that of another with the same faults
@@ -146,21 +147,22 @@ with_fault_of (CannotRead file) fails one = record { reads = one.reads; gives = 
 with_fault_of (File file f) fails one = record { reads = one.reads; gives = (one.gives.0, one.gives.1, λ text may. fails text f (one.gives.2 text may)) }
 with_fault_of fault fails one = absurd one.gives
 
-module _ {R A V : Type 0} {input : R → InputView} {old new : Option (Source R)} {reading : Text → Result A BytesFault} {is : A → V → Type 0} where
-  pub whole_stops : {fault : RunFault} {result : Result V RunFault} → IsErrAnd result (λ other. other ≡ fault) → IsText input old new (Err fault)
+module _ {R A V T : Type 0} {input : R → InputView} {text_of : T → Text} {old new : Option (Source R)} {reading : Text → Result A BytesFault}
+    {is : A → V → Type 0} where
+  pub whole_stops : {fault : RunFault} {result : Result V RunFault} → IsErrAnd result (λ other. other ≡ fault) → IsText input text_of old new (Err fault)
       → IsRead input reading is (λ _. ⊤) old new result
   whole_stops {fault = fault} {result = result} same whole =
       handed_on (IsRead input reading is (λ _. ⊤) old new) result fault same (with_fault_of fault (λ text other wrong. absurd (cc)) whole)
 
-  pub whole_is : {name : Bor Text} {text : Vec ℕ} {value : V} → IsText input old new (Ok (name, text)) → (a : A) → reading text.items ≡ Ok a → is a value
+  pub whole_is : {name : Bor Text} {text : T} {value : V} → IsText input text_of old new (Ok (name, text)) → (a : A) → reading (text_of text) ≡ Ok a → is a value
       → IsRead input reading is (λ _. ⊤) old new (Ok value)
   whole_is whole a reads holds = record {
     reads = whole.reads;
     gives = (whole.gives.0, λ other may. (a, ap reading (only_text whole other may).0 ∙ reads, holds));
   }
 
-  pub whole_is_bad : {name : Bor Text} {text : Vec ℕ} {made : RunFault} → IsText input old new (Ok (name, text)) → (fault : BytesFault)
-      → IsFaultFor name.now fault made → (is_out_of_memory fault ≡ false → reading text.items ≡ Err fault) → IsRead input reading is (λ _. ⊤) old new (Err made)
+  pub whole_is_bad : {name : Bor Text} {text : T} {made : RunFault} → IsText input text_of old new (Ok (name, text)) → (fault : BytesFault)
+      → IsFaultFor name.now fault made → (is_out_of_memory fault ≡ false → reading (text_of text) ≡ Err fault) → IsRead input reading is (λ _. ⊤) old new (Err made)
   whole_is_bad {name = name} {text = text} {made = made} whole fault made_of reads = record { reads = whole.reads; gives = by made made_of }
     where
       by : (made : RunFault) → IsFaultFor name.now fault made → Gives input reading is (λ _. ⊤) old new (Err made)

@@ -1,4 +1,5 @@
 //! Reads a file whole, and decodes its text. A text is given away once it is decoded.
+ghost use Rattle.std.specs.Prelude.{◌≡◌, ⊤, false, true, IfOk, OnErr, OnOk};
 ghost use Rattle.pmap_model.specs.MapText.{map_of};
 ghost use Rattle.pmap_model.specs.PrefixList.{list_of};
 ghost use Rattle.pmap_text.specs.Reading.{list_reading, map_reading};
@@ -6,15 +7,24 @@ ghost use Rattle.pmap_cert.specs.Certificate.{certificate_of};
 ghost use Rattle.pmap_cert.specs.FormatReading.{format_reading};
 ghost use Rattle.flow_files.specs.declared.bytes_fault.BytesFault.TheVariants.{Certificate as InCertificate, List as InList, Map as InMap};
 ghost use Rattle.flow_files.specs.Reports.{Decodes, IsFresh, IsText};
+ghost use Rattle.flow_io.specs.Devices.{Gives as GivesBytes, ReadsInput, has_ended, is_failed_read};
 
 use crate::bytes_fault::BytesFault;
 use crate::fault::RunFault;
 use crate::inputs::Source;
-use flow_io::{Input, ReadStop, fill, read_whole};
+use flow_io::{Input, ReadStop, read_whole};
 use pmap_cert::{Certificate, read_cert_with_hashing, text_of_format_is_read_or_has_a_fault};
 use pmap_model::{KeyHashing, MapText, PrefixList};
 use pmap_text::{Pieces, read_list_with_hashing, read_map_with_hashing};
 use std::alloc::Global;
+
+// Returns the fault of a file of this name that was not read to its end.
+fn stop_of<'a>(name: &'a str, stop: ReadStop) -> RunFault<'a> {
+    match stop {
+        ReadStop::ReadFault => RunFault::CannotRead(name),
+        ReadStop::NoMemory => RunFault::NoMemory,
+    }
+}
 
 /// Reads the rest of a file, and returns its name and its text. Both are empty if the file isn't there.
 pub fn read<'a, R: Input>(
@@ -29,37 +39,52 @@ pub fn read<'a, R: Input>(
     };
     match read_whole(alloc, &mut source.reader) {
         Ok(text) => Ok((source.name, text)),
-        Err(ReadStop::ReadFault) => Err(RunFault::CannotRead(source.name)),
-        Err(ReadStop::NoMemory) => Err(RunFault::NoMemory),
+        Err(stop) => Err(stop_of(source.name, stop)),
     }
 }
 
 // The number of bytes that are requested from a map's reader at a time.
 const CHUNK: usize = 65_536;
 
-// Reads the rest of a file in pieces, and returns its name and its text. Both are empty if the file isn't there. A text
-// that never ends is answered with `NoMemory`, since each piece is kept.
-fn read_pieces<'a, R: Input>(
+// Reads to the end of the input like `read_whole`, and returns the text in pieces.
+fn read_pieces<R: Input>(alloc: Global, reader: &mut R) -> Result<Pieces, ReadStop>
+    requires { (R.input reader.old).failed ≡ false }
+    ensures whole { IfOk result (λ text. GivesBytes (R.input reader.old) (R.input reader.new) text) }
+    ensures end { OnOk result (has_ended (R.input reader.new) ≡ true) }
+    ensures stopped { OnErr result (ReadsInput (R.input reader.old) (R.input reader.new) (λ _. ⊤)) }
+    ensures fault { (R.input reader.new).failed ≡ is_failed_read result }
+{
+    let mut text = Pieces::new(alloc);
+    let mut chunk = Vec::new(alloc);
+    chunk.resize(CHUNK, 0).map_err(|_| ReadStop::NoMemory)?;
+    loop {
+        let Ok(count) = reader.read(chunk.as_mut_slice()) else {
+            return Err(ReadStop::ReadFault);
+        };
+        if count == 0 {
+            return Ok(text);
+        }
+        let Ok(longer) = text.with(&chunk[..count]) else {
+            return Err(ReadStop::NoMemory);
+        };
+        text = longer;
+    }
+}
+
+// Reads the rest of a file like `read`, and returns its text in pieces.
+fn read_in_pieces<'a, R: Input>(
     alloc: Global,
     file: &mut Option<Source<'a, R>>,
 ) -> Result<(&'a str, Pieces), RunFault<'a>>
     requires { IsFresh R.input file.old }
     ensures { IsText R.input (λ text. text) file.old file.new result }
 {
-    let mut text = Pieces::new(alloc);
     let Some(source) = file else {
-        return Ok(("", text));
+        return Ok(("", Pieces::new(alloc)));
     };
-    let mut chunk = Vec::new(alloc);
-    chunk.resize(CHUNK, 0)?;
-    loop {
-        let Ok(count) = fill(&mut source.reader, chunk.as_mut_slice()) else {
-            return Err(RunFault::CannotRead(source.name));
-        };
-        text = text.with(&chunk[..count])?;
-        if count < chunk.len() {
-            return Ok((source.name, text));
-        }
+    match read_pieces(alloc, &mut source.reader) {
+        Ok(text) => Ok((source.name, text)),
+        Err(stop) => Err(stop_of(source.name, stop)),
     }
 }
 
@@ -72,7 +97,7 @@ pub fn read_map<'a, R: Input>(
     requires { IsFresh R.input file.old }
     ensures { Decodes R.input InMap map_reading map_of file.old file.new result }
 {
-    let (name, text) = read_pieces(alloc, file)?;
+    let (name, text) = read_in_pieces(alloc, file)?;
     match read_map_with_hashing(alloc, text, hashing) {
         Ok(map) => Ok(map),
         Err(fault) => Err(RunFault::of(name, BytesFault::Map(fault))),

@@ -58,7 +58,8 @@ impl Pieces {
 
     /// Returns the text with these bytes after it.
     pub fn with(self, bytes: &[u8]) -> Result<Pieces, AllocError>
-        ensures { IfOk result (λ text. text ≡ self ++ bytes.now) }
+        ensures text { IfOk result (λ text. text ≡ self ++ bytes.now) }
+        ensures fits { IfOk result (λ text. length text < 2 ^ 64) }
     {
         if bytes.len() < PIECE && self.last.len() < PIECE - bytes.len() {
             return self.extended(bytes);
@@ -73,7 +74,8 @@ impl Pieces {
 
     // Returns the text with these bytes at the end of its last piece.
     fn extended(self, bytes: &[u8]) -> Result<Pieces, AllocError>
-        ensures { IfOk result (λ text. text ≡ self ++ bytes.now) }
+        ensures text { IfOk result (λ text. text ≡ self ++ bytes.now) }
+        ensures fits { IfOk result (λ text. length text < 2 ^ 64) }
     {
         let Pieces {
             alloc,

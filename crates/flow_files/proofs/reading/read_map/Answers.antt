@@ -13,10 +13,10 @@ returns-in_err-name g c = whole_stops c.from_residual.ensures.1 c.in_err-name.en
 pub returns-in-Ok : goal.returns-in-Ok
 returns-in-Ok g c =
     whole_is c.in_ok-name.ensures (map_of c.in-Ok.map)
-    (ap (with_bytes_fault InMap) (ap map_reading (sym c.as_slice.ensures.value) ∙ c.in-Ok.ensures.ok)) refl
+    (ap (with_bytes_fault InMap) c.in-Ok.ensures.ok) refl
 
 pub returns : goal.returns
 returns g c =
     whole_is_bad c.in_ok-name.ensures (InMap c.in-Err.fault) c.of.ensures
-    (λ bytes. ap (with_bytes_fault InMap) (ap map_reading (sym c.as_slice.ensures.value)
-    ∙ c.in-Err.ensures.fault (λ same. let wrong : is_out_of_memory (InMap c.in-Err.fault) ≡ true = rw same refl in cc)))
+    (λ bytes. ap (with_bytes_fault InMap) (c.in-Err.ensures.fault (λ same.
+    let wrong : is_out_of_memory (InMap c.in-Err.fault) ≡ true = rw same refl in cc)))
