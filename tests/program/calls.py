@@ -277,6 +277,9 @@ CALLS = (
     *(Call("read_map", (text,), shown, allocates=False) for text, shown in (
         (f"default {256 * 'x'}", "line 1: bad label;"), ("10.0.0.0/33 A;", "line 1: bad block length;"),
         ("mode ipv4;10.0.0.9 2001:db8::1 x", "line 2: an address of the other version;"))),
+    # A comment of 40 bytes so often that the text has two pieces.
+    Call("Pieces::with", (f"# {37 * 'x'};", "10.0.0.0/8 A"), "ipv4;default 1;10.0.0.0 10.255.255.255 0;A;UNKNOWN;",
+         LINE_FAILED),
     *(Call("read_list", (text,), shown, LINE_FAILED) for text, shown in LISTS),
     Call("read_list", (";#;",), "ipv4;", allocates=False),
     # label_trie
