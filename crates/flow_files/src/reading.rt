@@ -18,14 +18,6 @@ use pmap_model::{KeyHashing, MapText, PrefixList};
 use pmap_text::{Pieces, read_list_with_hashing, read_map_with_hashing};
 use std::alloc::Global;
 
-// Returns the fault of a file of this name that was not read to its end.
-fn stop_of<'a>(name: &'a str, stop: ReadStop) -> RunFault<'a> {
-    match stop {
-        ReadStop::ReadFault => RunFault::CannotRead(name),
-        ReadStop::NoMemory => RunFault::NoMemory,
-    }
-}
-
 /// Reads the rest of a file, and returns its name and its text. Both are empty if the file isn't there.
 pub fn read<'a, R: Input>(
     alloc: Global,
@@ -39,7 +31,8 @@ pub fn read<'a, R: Input>(
     };
     match read_whole(alloc, &mut source.reader) {
         Ok(text) => Ok((source.name, text)),
-        Err(stop) => Err(stop_of(source.name, stop)),
+        Err(ReadStop::ReadFault) => Err(RunFault::CannotRead(source.name)),
+        Err(ReadStop::NoMemory) => Err(RunFault::NoMemory),
     }
 }
 
@@ -84,7 +77,8 @@ fn read_in_pieces<'a, R: Input>(
     };
     match read_pieces(alloc, &mut source.reader) {
         Ok(text) => Ok((source.name, text)),
-        Err(stop) => Err(stop_of(source.name, stop)),
+        Err(ReadStop::ReadFault) => Err(RunFault::CannotRead(source.name)),
+        Err(ReadStop::NoMemory) => Err(RunFault::NoMemory),
     }
 }
 
