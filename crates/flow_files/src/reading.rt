@@ -31,7 +31,7 @@ pub fn read<'a, R: Input>(
     };
     match read_whole(alloc, &mut source.reader) {
         Ok(text) => Ok((source.name, text)),
-        Err(ReadStop::ReadFault) => Err(RunFault::CannotRead(source.name)),
+        Err(ReadStop::DeviceFault) => Err(RunFault::CannotRead(source.name)),
         Err(ReadStop::NoMemory) => Err(RunFault::NoMemory),
     }
 }
@@ -52,7 +52,7 @@ fn read_pieces<R: Input>(alloc: Global, reader: &mut R) -> Result<Pieces, ReadSt
     chunk.resize(CHUNK, 0).map_err(|_| ReadStop::NoMemory)?;
     loop {
         let Ok(count) = reader.read(chunk.as_mut_slice()) else {
-            return Err(ReadStop::ReadFault);
+            return Err(ReadStop::DeviceFault);
         };
         if count == 0 {
             return Ok(text);
@@ -77,7 +77,7 @@ fn read_in_pieces<'a, R: Input>(
     };
     match read_pieces(alloc, &mut source.reader) {
         Ok(text) => Ok((source.name, text)),
-        Err(ReadStop::ReadFault) => Err(RunFault::CannotRead(source.name)),
+        Err(ReadStop::DeviceFault) => Err(RunFault::CannotRead(source.name)),
         Err(ReadStop::NoMemory) => Err(RunFault::NoMemory),
     }
 }

@@ -3,7 +3,7 @@ use Rattle.std.specs.Io.KnownBytes.{Appends, Consumes}
 pub use Rattle.flow_io.specs.declared.devices.LastCall.{LastCall}
 pub use Rattle.flow_io.specs.declared.devices.LastCall.TheVariants.{FailedFlush, Flush, Nothing, Write}
 use Rattle.flow_io.specs.declared.whole.ReadStop.{ReadStop}
-use Rattle.flow_io.specs.declared.whole.ReadStop.TheVariants.{ReadFault, NoMemory}
+use Rattle.flow_io.specs.declared.whole.ReadStop.TheVariants.{DeviceFault, NoMemory}
 
 -- What contracts see of a reader: whether a read has failed, the bytes that reads have returned, whether the last read
 -- returned no byte although there was room for one, and the bytes that are left, if the reader reports them.
@@ -72,7 +72,7 @@ flush_call (Err _) = FailedFlush
 -- whether the reader failed, from the result of reading it whole
 abbrev pub is_failed_read : {A : Type 0} → Result A ReadStop → Bool
 is_failed_read (Ok _) = false
-is_failed_read (Err ReadFault) = true
+is_failed_read (Err DeviceFault) = true
 is_failed_read (Err NoMemory) = false
 
 -- Which bytes a reader returns.

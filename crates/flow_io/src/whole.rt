@@ -12,7 +12,7 @@ use thiserror::Error;
 pub enum ReadStop {
     /// The reader failed.
     #[error("the reader failed")]
-    ReadFault,
+    DeviceFault,
     /// An allocation failed.
     #[error("no memory for the bytes read")]
     NoMemory,
@@ -51,7 +51,7 @@ pub fn read_whole<R: Input>(alloc: Global, reader: &mut R) -> Result<Vec<u8>, Re
     chunk.resize(CHUNK, 0).map_err(|_| ReadStop::NoMemory)?;
     loop {
         let Ok(count) = reader.read(chunk.as_mut_slice()) else {
-            return Err(ReadStop::ReadFault);
+            return Err(ReadStop::DeviceFault);
         };
         if count == 0 {
             return Ok(text);
