@@ -113,11 +113,6 @@ impl<W: Output> Sink for Buffered<'_, W> {
         self.hold(given, count);
         Ok(())
     }
-
-    #[inline(always)]
-    fn push(&mut self, bytes: &[u8]) -> Result<(), Infallible> {
-        self.push_start(bytes, bytes.len())
-    }
 }
 
 // Writes through a buffer.

@@ -22,8 +22,12 @@ pub trait Sink {
         ensures { Pushes sink began self.old self.new (take count given.now) result };
 
     /// Adds bytes.
+    #[inline(always)]
     fn push(&mut self, bytes: &[u8]) -> Result<(), Self::Fault>
-        ensures { Pushes sink began self.old self.new bytes.now result };
+        ensures { Pushes sink began self.old self.new bytes.now result }
+    {
+        self.push_start(bytes, bytes.len())
+    }
 }
 
 /// A value that has a text.
@@ -60,11 +64,6 @@ impl Sink for Vec<u8> {
     #[inline(always)]
     fn push_start(&mut self, given: &[u8], count: usize) -> Result<(), AllocError> {
         self.extend_from_slice(&given[..count])
-    }
-
-    #[inline(always)]
-    fn push(&mut self, bytes: &[u8]) -> Result<(), AllocError> {
-        self.extend_from_slice(bytes)
     }
 }
 
