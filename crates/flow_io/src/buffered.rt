@@ -115,24 +115,6 @@ impl<W: Output> Sink for Buffered<'_, W> {
     }
 }
 
-// Writes through a buffer.
-fn write_through<P: Printable, W: Output>(
-    writer: &mut W,
-    given: &mut Given,
-    buffer: &mut [u8],
-    value: &P,
-) -> Result<(), DeviceFault>
-    requires works { (W.output writer.old).failed ≡ false }
-    requires none { (given.old.taken.bytes ≡ []) × (given.old.lost.bytes ≡ []) }
-    requires room { ROOM ≤ length buffer.old }
-    requires value { P.is_whole value.now }
-    ensures { WritesText (W.output writer.old) (W.output writer.new) (P.is_text value.now) result }
-{
-    let mut out = Buffered::new(writer, given, buffer);
-    out.print(value);
-    out.finish()
-}
-
 /// Writes the text of a value while it is printed, and then flushes the writer once. Nothing is allocated. If a write
 /// fails, the writer has taken a prefix of the text. If the flush fails, the writer has taken all of it.
 #[inline(never)]
@@ -141,5 +123,9 @@ pub fn write_printed<P: Printable, W: Output>(writer: &mut W, value: &P) -> Resu
     requires value { P.is_whole value.now }
     ensures { WritesText (W.output writer.old) (W.output writer.new) (P.is_text value.now) result }
 {
-    write_through(writer, &mut Given::none(), &mut [0; ROOM], value)
+    let mut given = Given::none();
+    let mut buffer = [0; ROOM];
+    let mut out = Buffered::new(writer, &mut given, &mut buffer);
+    out.print(value);
+    out.finish()
 }
