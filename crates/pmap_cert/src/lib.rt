@@ -12,9 +12,9 @@
 //!
 //! A certificate is a binary tree over the address space. Each inner node claims a cost and a set of labels, from which
 //! a checker sees that no list that labels every address as the map does is shorter than the given one. The crate
-//! depends on prefix_keys (blocks), pmap_model (maps, prefix lists and their labels), pmap_text (the reading of texts,
-//! of which laws speak) and flow_io (what texts are printed into). A `Certificate`, a `CompactText` and an `OpenedText`
-//! can be printed while they are written.
+//! depends on prefix_keys (blocks), pmap_model (maps, prefix lists and their labels), pmap_text (its
+//! definitions of how texts are read, which laws cite) and flow_io (what texts are printed into). A `Certificate`, a
+//! `CompactText` and an `OpenedText` can be printed while they are written.
 //!
 //! The minimiser and the checker may rely on these laws: an accepted certificate shows that its list is equivalent and
 //! that no equivalent list is shorter; each map has a minimal pair of a list and a certificate that is accepted; a

@@ -1,4 +1,5 @@
-//! Runs: steps down to the half whose sibling has the side label alone.
+//! The runs of a certificate's tree: steps down to the half whose sibling has the side label alone. The `Runs` of
+//! pmap_stretches are others, ranges of addresses.
 ghost use Rattle.std.specs.Prelude.{◌≡◌, ◌+◌, ◌^◌, ◌<◌, ◌↔◌, IsTrue, MatchOption, Some, length, option_map};
 ghost use Rattle.pmap_stretches.specs.Windows.{IsWindow};
 ghost use Rattle.pmap_minimise.specs.Runs.{HasLabel, IsCounted, IsRunTo, IsStepInto, IsStop, own_label};
