@@ -140,6 +140,11 @@ class Part:
             index += 1
         return self.word(index) == ":"
 
+    def is_in_type(self, index):
+        """Whether the word is in the brackets of a type such as `List (A × B)`."""
+        return any(first < index < last and self.word(first - 1) in ("List", "Option")
+                   for first, last in self.mates.items())
+
     def piece(self, start, end):
         """Returns the text of the tokens from one index to another."""
         return self.text[self.tokens[start][1]:self.tokens[end - 1][2]] if start < end else ""
@@ -223,7 +228,8 @@ def operand_changes(part, begin):
             continue
         left, right = part.piece(start, index), part.piece(index + 1, end)
         if word in ("&&", "||", "++", "+", "-", "*", "/", "%", "⊎", "×"):
-            if not (word == "×" and re.fullmatch(r"\([\w' ]+ : .*\)", left, re.S)):
+            # Without a part of a type there is no type.
+            if not (word == "×" and (part.is_in_type(index) or re.fullmatch(r"\([\w' ]+ : .*\)", left, re.S))):
                 yield f"{shown(left)} {word} ..: without the first", part.replaced(start, end, right)
                 yield f".. {word} {shown(right)}: without the second", part.replaced(start, end, left)
         if word in ("++", "-", "/", "%"):
