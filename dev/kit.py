@@ -329,17 +329,17 @@ class Refusal(CannotEvaluate):
     """clap refuses the words, or they ask for help; with the kind of error."""
 
 
-def refuse(kind=None):
-    raise Refusal(kind or "UnknownArgument")
+def refuse(kind=None, *others):
+    raise Refusal(kind or "UnknownArgument", *others)
 
 
 def is_plain(word):
     return word[:1] != codes("-") or len(word) == 1
 
 
-def level(shape, words, subcommands, asks):
+def level(shape, words, subcommands, asks, is_checked):
     """Divides words by the rules of a command. Returns the lists of values of its arguments, and the words from a
-    subcommand on."""
+    subcommand on. An argument that is required may be missing unless the words are checked."""
     options = {codes("--") + rule.f_long.args[0]: rule for rule in reversed(shape.f_rules) if is_some(rule.f_long)}
     places = [rule for rule in shape.f_rules if not is_some(rule.f_long)]
     is_flag, takes_more = (lambda rule, kind=kind: rule.f_action == some(Case(kind)) for kind in ("SetTrue", "Append"))
@@ -368,31 +368,34 @@ def level(shape, words, subcommands, asks):
                 value = rest.pop(0) if rest and is_plain(rest[0]) else refuse()
         values[rule.f_id] = refuse() if rule.f_id in values else [value]
     for rule in shape.f_rules:
-        if rule.f_required and rule.f_id not in values:
+        if is_checked and rule.f_required and rule.f_id not in values:
             refuse()
         if is_flag(rule):
             values.setdefault(rule.f_id, [codes("false")])
     return values, []
 
 
-def divided(app, words):
+def divided(app, words, is_checked=False):
     """Returns the subcommand that the words name, with the rows of its arguments."""
     top, subs = app.f_top, {shape.f_name: shape for shape in reversed(app.f_subs)}
     rules = itertools.chain(top.f_rules, *(shape.f_rules for shape in app.f_subs))
-    if not top.f_disable_help_subcommand or any(rule.f_value_names > 1 for rule in rules):
-        cannot("clap's own subcommand help, or an argument with several values")
+    if any(rule.f_value_names > 1 for rule in rules):
+        cannot("an argument with several values")
     asks = {codes("--help"): "DisplayHelp", codes("-h"): "DisplayHelp"}
     version = {codes("--version"): "DisplayVersion", codes("-V"): "DisplayVersion"} if top.f_has_version else {}
-    _, rest = level(top, words[1:], subs, asks | version)
+    own = () if top.f_disable_help_subcommand else (codes("help"),)
+    _, rest = level(top, words[1:], (*subs, *own), asks | version, is_checked)
     if not rest:
-        return refuse() if top.f_subcommand_required else NONE
-    values, _ = level(subs[rest[0]], rest[1:], (), asks)
+        return refuse() if is_checked and top.f_subcommand_required else NONE
+    if rest[0] in own:
+        refuse("DisplayHelp", "InvalidSubcommand")
+    values, _ = level(subs[rest[0]], rest[1:], (), asks, is_checked)
     return some(pair(rest[0], tuple(Record(f_id=name, f_values=tuple(found)) for name, found in values.items())))
 
 
 def fault_of(app, words):
     try:
-        divided(app, words)
+        divided(app, words, True)
         return ()
     except Refusal as refusal:
         return tuple(map(Case, refusal.args))
