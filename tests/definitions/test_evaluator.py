@@ -1,11 +1,13 @@
 """dev/evaluate computes what the definitions and the kit's library say, and what it can't evaluate ends with 125."""
 
 import os
+import pathlib
 import random
 import re
 import subprocess
 import sys
 
+from definitions import inputs
 from support import PROGRAM, ROOT, Case, needs, rows, run, write
 from support.ipfix import message, sets, template
 
@@ -123,6 +125,76 @@ class Evaluating(Case):
         import quick
         cls.claims, cls.headline, cls.kit, cls.quick = claims, headline, kit, quick
         cls.definitions = claims.Definitions()
+
+
+@needs("rt")
+class Clap(Evaluating):
+    """The words of clap in dev/kit.py have the values of the kit's equations. These are evaluated with any text as the
+    value of an option, as our options have it."""
+
+    LINES = 40
+    # A value of an option: what clap makes of its text, and its faults.
+    ANY_TEXT = (("Walk", "reading_of (parser_of_value a.parser)", "0"),
+                ("Kinds", "if accepts ignore_case parser text then [] else refused_kind parser ∷ []", "[]"))
+
+    @classmethod
+    def prepare(cls):
+        super().prepare()
+        from specs import Module
+        cls.kit.LIBRARY |= {"chars": (1, "the characters", lambda text: tuple(map(ord, bytes(text).decode()))),
+                            "encode_utf8": (1, "the bytes of a character", lambda char: tuple(chr(char).encode()))}
+        cls.theirs = cls.claims.Definitions()
+        home = pathlib.Path(subprocess.check_output(["rt", "doc"], text=True).strip()).parent
+        for path in home.glob("rattle/clap/specs/*.antt"):
+            text = path.read_text(encoding="utf-8")
+            for name, old, short in cls.ANY_TEXT:
+                text = text.replace(old, short) if path.stem == name else text
+            # Before the file names constructors so, variables have these names.
+            front, declared, rest = text.partition("pub data Step")
+            front = re.sub(r"(?<![\w.])(value|next)(?!\w)", r"\1_", front) if declared else front
+            key = f"clap/{path.stem}"
+            cls.theirs.modules[key] = Module(key, path, front + declared + rest).read()
+
+    def say(self, kinds):
+        """Returns what the definitions make of kinds of errors: whether there is one, help, and a mistake."""
+        told = (self.definitions.call(f"flow_files/Answer.{name}") for name in ("is_help", "is_mistake"))
+        return [bool(kinds), *(any(map(is_so, kinds)) for is_so in told)]
+
+    @staticmethod
+    def entries(found):
+        """Returns the name of a subcommand, and the values of its arguments."""
+        return [(part.f_0, {row.f_id: tuple(row.f_values) for row in part.f_1}) for part in found.args]
+
+    def compare(self, rng, app, has_help, lines):
+        ours, theirs = (all.call(app) for all in (self.definitions, self.theirs))
+        if has_help:
+            ours, theirs = (a.updated(f_top=a.f_top.updated(f_disable_help_subcommand=False)) for a in (ours, theirs))
+        for line in lines:
+            line = rng.choice((line, [*line, *line[1:3]], inputs.damaged_words(rng, line)))
+            words = tuple(map(tuple, (b"program", *line)))
+            if b"\xff" in line:  # which isn't UTF-8
+                continue
+            faults = self.kit.fault_of(ours, words)
+            self.assertEqual(self.say(faults), self.say(self.theirs.call("clap/Faults.fault_of", theirs, words)), line)
+            try:
+                found = self.kit.divided(ours, words)
+            except self.kit.Refusal:
+                self.assertTrue(faults, line)
+                continue
+            wanted = self.theirs.call("clap/Simple.subcommand_of", theirs, words)
+            self.assertEqual(self.entries(found), self.entries(wanted), line)
+
+    @rows((False,), (True,))
+    def test_flowlabel(self, has_help):
+        rng = random.Random(1)
+        line = lambda: rng.choice((inputs.report_words(rng, inputs.LABELS), inputs.text_words(rng), inputs.CHECK))
+        lines = [line() for _ in range(self.LINES)] + [[word] for word in inputs.WORDS]
+        self.claims.with_stack(lambda: self.compare(rng, "flowlabel/Definition.flowlabel_app", has_help, lines))
+
+    def test_many(self):
+        rng = random.Random(2)
+        lines = [inputs.many_words(rng) + [b"f"] * rng.randrange(3) for _ in range(self.LINES)]
+        self.claims.with_stack(lambda: self.compare(rng, "flow_many/Definition.many_app", False, lines))
 
 
 class Quick(Evaluating):
