@@ -375,7 +375,7 @@ def equations(text, start, end, name, indent):
 
 def split_arrows(kind):
     """Returns the types of a function's arguments, from the text of its type."""
-    kind = re.sub(r"^\s*(\{[^}]*\}\s*→\s*)+", "", kind)
+    kind = re.sub(r"^\s*((\{[^}]*\}\s*)+→\s*)+", "", kind)
     depth, pieces, here = 0, [], ""
     for letter in kind:
         depth += letter in "({"
