@@ -301,6 +301,7 @@ LIBRARY = {
         is_some(o) == is_some(p) and (not is_some(o) or e(o.args[0])(p.args[0])))),
     "ok_or": (2, "the value as a result, or the fault", lambda o, e: ok(o.args[0]) if is_some(o) else err(e)),
     "IfSome": (2, "the statement holds of the value, if it is one", lambda o, p: not is_some(o) or p(o.args[0])),
+    "IfErr": (2, "the statement holds of the fault, if it is one", lambda r, p: is_ok(r) or p(r.args[0])),
     "is_ok": (1, "it is a result", is_ok),
     "result_ok": (1, "the result, if it is one", lambda r: option(is_ok(r), r.args[0])),
     "result_map_both": (3, "f of the result, or g of the fault", lambda f, g, r: (

@@ -34,9 +34,9 @@ pub fn the_message_of_rfc_7011_is_decoded()
     ensures whole { file_reading rfc_message ≡ Ok (rfc_decoded ∷ []) }
     ensures twice { file_reading (rfc_message ++ rfc_message) ≡ Ok (rfc_decoded ∷ rfc_decoded ∷ []) }
     ensures cut_off { file_reading (rfc_message ++ take 151 rfc_message) ≡ Err (at_offset TruncatedMessage 152) }
-    ensures stops_between { StopsReading rfc_message (at_offset Unread 152) }
-    ensures stops_within { StopsReading (rfc_message ++ take 100 rfc_message) (at_offset Unread 152) }
-    ensures stops_first { StopsReading [] (at_offset Unread 0) }
+    ensures stops_between { StopsReading rfc_message }
+    ensures stops_within { StopsReading (rfc_message ++ take 100 rfc_message) }
+    ensures stops_first { StopsReading [] }
 {}
 
 /// RFC 7011, section 3.1, and RFC 5655: a File is a concatenation of messages.
@@ -234,12 +234,12 @@ pub fn the_counts_of_messages_add_up()
 
 /// A reader may fail at the end of a message, or within one that isn't complete.
 pub fn a_reader_may_stop_within_a_message()
-    ensures after_ten_bytes { StopsReading (take 10 rfc_message) (at_offset Unread 0) }
+    ensures after_ten_bytes { StopsReading (take 10 rfc_message) }
     ensures of_a_file_that_is_read_on { StopsFrom no_templates 4 7 [] (at_offset Unread 7) }
-    ensures not_elsewhere { StopsReading [] (at_offset Unread 1) → ⊥ }
-    ensures not_after_the_beginning_of_a_message { StopsReading (take 10 rfc_message) (at_offset Unread 10) → ⊥ }
-    ensures not_after_a_fault { StopsReading (hex (codes "00090010 00000000 00000000 00000001")) (at_offset Unread 0) → ⊥ }
-    ensures not_with_another_fault { StopsReading [] (at_offset TruncatedHeader 0) → ⊥ }
+    ensures not_elsewhere { StopsFrom no_templates 0 0 [] (at_offset Unread 1) → ⊥ }
+    ensures not_after_the_beginning_of_a_message { StopsFrom no_templates 0 0 (take 10 rfc_message) (at_offset Unread 10) → ⊥ }
+    ensures not_after_a_fault { StopsReading (hex (codes "00090010 00000000 00000000 00000001")) → ⊥ }
+    ensures not_with_another_fault { StopsFrom no_templates 0 0 [] (at_offset TruncatedHeader 0) → ⊥ }
     ensures not_after_too_many_messages { StopsFrom no_templates 4294967295 0 rfc_message (at_offset Unread 152) → ⊥ }
     ensures not_after_other_bytes { StopsFrom no_templates 0 4294967295 rfc_message (at_offset Unread 152) → ⊥ }
 {}

@@ -211,7 +211,7 @@ messages_err (Err own) fault is = let same : InFlows own ≡ fault = cc in ap Er
 
 messages_read : {R W : Type 0} {input : R → InputView} (is : List MessageView → W → Type 0) {old new : Option (Source R)} (result : Result W RunFault)
     → ReadsInto input (λ placed. is (messages_in placed)) old new result
-    → IsRead input (λ text. with_bytes_fault InFlows (file_reading text)) is (λ bytes. (stop : ReadFault) × StopsReading bytes stop) old new result
+    → IsRead input (λ text. with_bytes_fault InFlows (file_reading text)) is StopsReading old new result
 messages_read is (Ok value) read = record {
   reads = read.reads;
   gives = (
@@ -257,7 +257,7 @@ module _ {R : Type 0} {input : R → InputView} where
       (had : AreRead input n Was old mid (Ok v)) (r : Role) (early : n ≤ turn r) {file : Option (Source R)}
       {reading : Text → Result B BytesFault} {is : B → W → Type 0} {stops : List ℕ → Type 0}
       (named : (text : Text) (fault : BytesFault) → reading text ≡ Err fault → role_of fault ≡ r)
-      (flows : r ≡ role.Flows → (bytes : List ℕ) → stops bytes → (stop : ReadFault) × StopsReading bytes stop) where
+      (flows : r ≡ role.Flows → (bytes : List ℕ) → stops bytes → StopsReading bytes) where
     pub next : {m : ℕ} → turn r < m → {result : Result W RunFault} → IsRead input reading is stops (at r mid) file result
         → AreRead input m (λ texts. IsReading (reading (at r texts)) is) old (with_at r file mid) result
     next {m = m} after {result = result} one = record {
@@ -285,7 +285,7 @@ module _ {R : Type 0} {input : R → InputView} where
           λ o later. at_later file mid r o later ∙ had.kept o (omega (arith, later, early)),
           λ texts given fault reads. omega (arith, ap turn (named (at r texts) fault reads)),
           λ last.
-              subst (λ (l : List ℕ). (stop : ReadFault) × StopsReading l stop)
+              subst StopsReading
               (sym (ap (λ (f : Option (Source R)). (view_of input f).returned) (ap (λ (p : Role). at p (with_at r file mid)) (sym last) ∙ at_same r file mid)))
               (flows last (view_of input file).returned stopped),
         )

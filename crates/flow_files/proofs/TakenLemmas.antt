@@ -1,11 +1,11 @@
 -- The messages of a File, call by call.
 use Rattle.std.proofs.Common.{◌≡◌, ◌∙◌, ◌≤◌, ◌+◌, ◌⊎◌, inl, inr, ℕ, List, [], ◌++◌, Option, Some, None, Result, Ok, Err, true, false, length, refl, sym, ap, subst, arith}
-use Rattle.std.specs.Prelude.{OnSome, ⊤}
+use Rattle.std.specs.Prelude.{IfErr, OnSome, ⊤}
 use Rattle.std.specs.Result.{IsErrAnd, result_map_both}
 use Rattle.flow_io.specs.Devices.{InputView, MayFollow, ReadsInput, has_ended}
 use Rattle.ipfix_templates.specs.InForce.{no_templates}
-use Rattle.ipfix_read.specs.Fault.{is_of_calls, is_of_reader, out_of_memory}
-use Rattle.ipfix_read.specs.Messages.{AnswersNext, IsAt, ProgressView, StopsAfter, StopsReading, file_reading, messages_in, placed_messages}
+use Rattle.ipfix_read.specs.Fault.{TruncatedHeader, TruncatedMessage, is_of_calls, is_of_reader, out_of_memory}
+use Rattle.ipfix_read.specs.Messages.{AnswersNext, IsAt, ProgressView, StopsAfter, StopsFrom, StopsReading, file_reading, messages_in, placed_messages}
 use Rattle.ipfix_read.specs.Laws.{CallsJoinFile}
 use Rattle.ipfix_read.specs.declared.progress.State.TheVariants.{Going}
 use Rattle.ipfix_read.specs.Message.{MessageView}
@@ -25,6 +25,15 @@ stopped : (size : ℕ) (reading : Result (List MessageView) ReadFault) (stop : R
 stopped size (Ok messages) stop is = ap (λ (f : ReadFault). is_of_reader f.kind) is
 stopped size (Err fault) stop is = ap (λ (f : ReadFault). is_of_reader f.kind) is.1
 
+-- the bytes before a reader stopped have no fault but the end within a message
+may_go_on : (bytes : List ℕ) (stop : ReadFault) → StopsFrom no_templates 0 0 bytes stop → StopsReading bytes
+may_go_on bytes stop = by (file_reading bytes)
+  where
+    by : (reading : Result (List MessageView) ReadFault) → StopsAfter (0 + length bytes) reading stop
+        → IfErr reading (λ fault. (fault.kind ≡ TruncatedHeader) ⊎ (fault.kind ≡ TruncatedMessage))
+    by (Ok messages) is = tt
+    by (Err fault) is = is.0
+
 -- a fault of the messages of bytes is that of the messages with their offsets
 placed_err : (all : Result (List (ℕ × MessageView)) ReadFault) (fault : ReadFault) → result_map_both messages_in (λ (f : ReadFault). f) all ≡ Err fault
     → all ≡ Err fault
@@ -37,15 +46,15 @@ placed_fault bytes fault is = placed_err (placed_messages bytes) fault (sym (pla
 -- a fault of a call is the one of the bytes, of a reader that stopped, or that an allocation failed
 fault_read : {R : Type 0} (input : R → InputView) (start now : Option (Source R)) (fault : ReadFault) (made : RunFault)
     → IsFaultOfCall (name_in start) fault made → (view_of input start).returned ≡ [] → (view_of input now).failed ≡ is_of_reader fault.kind
-    → ReadsInput (view_of input start) (view_of input now) (λ bytes. (fault ≡ out_of_memory) ⊎ (StopsReading bytes fault
+    → ReadsInput (view_of input start) (view_of input now) (λ bytes. (fault ≡ out_of_memory) ⊎ (StopsFrom no_templates 0 0 bytes fault
     ⊎ ((is_of_calls fault.kind ≡ false) × ((rest : List ℕ) → MayFollow (has_ended (view_of input now)) rest → file_reading (bytes ++ rest) ≡ Err fault))))
     → ReadsInto input {T = List (ℕ × MessageView)} (λ read all. read ≡ all) start now (Err made)
 fault_read input start now fault NoMemory is none works (bytes, gives, joined) = record { reads = (bytes, gives, tt); gives = works ∙ is.0 }
 fault_read input start now fault (CannotRead file) (named, reader) none works (bytes, gives, inl memory) =
     let wrong : is_of_reader fault.kind ≡ false = not_of_reader fault.kind (ap (λ (f : ReadFault). is_of_calls f.kind) memory) in cc
 fault_read input start now fault (CannotRead file) (named, reader) none works (bytes, gives, inr (inl stops)) =
-    let stop_is : StopsReading (view_of input now).returned fault = subst (λ (l : List ℕ). StopsReading l fault) (sym (all_read none gives)) stops in
-    record { reads = (bytes, gives, tt); gives = (works ∙ reader, named, (fault, stop_is)) }
+    let goes_on : StopsReading (view_of input now).returned = subst StopsReading (sym (all_read none gives)) (may_go_on bytes fault stops) in
+    record { reads = (bytes, gives, tt); gives = (works ∙ reader, named, goes_on) }
 fault_read input start now fault (CannotRead file) (named, reader) none works (bytes, gives, inr (inr (calls, has))) =
     let wrong : is_of_reader fault.kind ≡ false = not_of_reader fault.kind calls in cc
 fault_read input start now fault (File file made) (bytes_fault, is) none works (bytes, gives, inl memory) =

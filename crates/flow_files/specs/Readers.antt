@@ -2,7 +2,6 @@ use Rattle.std.specs.Prelude.{◌≡◌, ◌≤◌, ◌<◌, ◌||◌, ◌++◌,
 use Rattle.std.specs.Option.{option_map_or}
 use Rattle.flow_io.specs.Devices.{InputView, MayFollow, ReadsInput, has_ended}
 use Rattle.ipfix_read.specs.Messages.{StopsReading}
-use Rattle.ipfix_read.specs.declared.fault.ReadFault.{ReadFault}
 use Rattle.flow_files.specs.BytesFault.{is_out_of_memory, role_of}
 use Rattle.flow_files.specs.ByFile.{ByFile, Role, at, turn}
 use Rattle.flow_files.specs.ByFile as roles
@@ -68,7 +67,7 @@ module _ {R : Type 0} (input : R → InputView) where
       × ((view_of (at role new)).failed ≡ true) × AreLaterUntouched role old new
       × ((texts : ByFile Text) → AreTexts new texts → (fault : BytesFault) → Is texts (Err fault)
       → turn role ≤ turn (role_of fault))
-      × (role ≡ roles.Flows → (stop : ReadFault) × StopsReading (view_of new.flows).returned stop)
+      × (role ≡ roles.Flows → StopsReading (view_of new.flows).returned)
   IsFaultOf Is old new (File file fault) = (file.now ≡ name_in (at (role_of fault) old))
       × ((texts : ByFile Text) → AreTexts new texts → Is texts (Err fault))
       × AreLaterUntouched (role_of fault) old new × (any_failed new ≡ false)

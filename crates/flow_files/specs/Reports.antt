@@ -122,7 +122,7 @@ module _ {R : Type 0} (input : R → InputView) where
   abbrev pub ReadsInto : {T : Type 0} → (List (ℕ × MessageView) → T → Type 0) → Option (Source R) → Option (Source R)
       → Result T RunFault → Type 0
   ReadsInto is_of = IsRead (λ text. with_bytes_fault InFlows (placed_messages text)) is_of
-      (λ bytes. (stop : ReadFault) × StopsReading bytes stop)
+      StopsReading
 
   -- The input has returned these messages with their offsets, whose number the state has, and there may be more. Nothing was read before.
   pub record AreReadSoFar (start : Option (Source R)) (placed : List (ℕ × MessageView)) (p : ProgressView)

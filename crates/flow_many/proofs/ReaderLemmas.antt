@@ -6,7 +6,6 @@ use Rattle.std.proofs.lemmas.List.{append-nil}
 use Rattle.pmap_model.specs.Steps.{◌>>=◌}
 use Rattle.flow_io.specs.Devices.{InputView, ReadsInput}
 use Rattle.flow_files.proofs.ReadLemmas.{may_have}
-use Rattle.ipfix_read.specs.declared.fault.ReadFault.{ReadFault}
 use Rattle.ipfix_read.specs.Messages.{StopsReading}
 use Rattle.flow_files.specs.Opening.{IsOpened}
 use Rattle.flow_files.specs.Readers.{IsFaultFor, MayHave, view_of}
@@ -99,8 +98,7 @@ module _ {R : Type 0} (answers : Text → Option R → Type 0) (input : R → In
       file.last,
       file.was,
       ap (λ (v : InputView). v.failed) (sym file.view) ∙ reads.gives.0,
-      reads.gives.2.0,
-      subst (λ (v : InputView). StopsReading v.returned reads.gives.2.0) file.view reads.gives.2.1,
+      subst (λ (v : InputView). StopsReading v.returned) file.view reads.gives.2,
     )
     read_fails (File f fault) reads = (
       reads.gives.1 ∙ name_is name old opened,
@@ -207,9 +205,9 @@ module _ {R : Type 0} (answers : Text → Option R → Type 0) (input : R → In
     one_fails NoMemory ends = tt
     one_fails (CannotOpen file) (named, answered) =
         subst (λ (n : Text). AreSound answers input (refusal first) names n × answers n None) (sym named) (sound_before, answered)
-    one_fails (CannotRead file) (named, opened, last, was, failed, stop, stops) =
+    one_fails (CannotRead file) (named, opened, last, was, failed, stops) =
         subst (λ (n : Text). AreSound answers input (refusal first) names n × (o : R) × (l : R) × WasRead answers input n o l × ((input l).failed ≡ true)
-        × (stop : ReadFault) × StopsReading (input l).returned stop) (sym named) (sound_before, opened, last, was, failed, stop, stops)
+        × StopsReading (input l).returned) (sym named) (sound_before, opened, last, was, failed, stops)
     one_fails (File file fault) (named, opened, last, was, works, faulty) =
         subst (λ (n : Text). (sound : AreSound answers input (refusal first) names n) × (o : R) × (l : R) × WasRead answers input n o l
         × ((input l).failed ≡ false)

@@ -1,7 +1,6 @@
 use Rattle.std.specs.Prelude.{◌≡◌, ◌≤◌, ◌+◌, ◌*◌, ◌++◌, ◌∷◌, ◌&&◌, ℕ, false, true, List, [], Option, None, Result, Ok, Err, decimal, length, map, option_map}
 use Rattle.std.specs.List.{flat_map, list_any}
 use Rattle.flow_io.specs.Devices.{InputView}
-use Rattle.ipfix_read.specs.declared.fault.ReadFault.{ReadFault}
 use Rattle.ipfix_read.specs.Messages.{StopsReading}
 use Rattle.flow_filter.specs.Condition.{passing}
 use Rattle.flow_rows.specs.Counts.{rows_of_messages}
@@ -45,7 +44,7 @@ module _ {R : Type 0} (answers : Text → Option R → Type 0) (input : R → In
   EndsFile refusal has_files has_messages name old new (Err (CannotOpen file)) = (file.now ≡ name) × answers name None
   EndsFile refusal has_files has_messages name old new (Err (CannotRead file)) = (file.now ≡ name) × (opened last : R)
       × WasRead answers input name opened last × ((input last).failed ≡ true)
-      × (stop : ReadFault) × StopsReading (input last).returned stop
+      × StopsReading (input last).returned
   EndsFile {T} refusal has_files has_messages name old new (Err (File file fault)) = (file.now ≡ name)
       × (opened last : R)
       × WasRead answers input name opened last × ((input last).failed ≡ false)

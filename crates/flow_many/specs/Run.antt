@@ -1,6 +1,5 @@
 use Rattle.std.specs.Prelude.{◌≡◌, ◌+◌, ◌++◌, ◌∷◌, ◌⊎◌, ⊤, List, [], Option, Some, None, Result, Ok, Err, false, true, length}
 use Rattle.flow_io.specs.Devices.{InputView, OutputView, ReadsInput, StopsWriting, WritesWhole}
-use Rattle.ipfix_read.specs.declared.fault.ReadFault.{ReadFault}
 use Rattle.ipfix_read.specs.Messages.{StopsReading}
 use Rattle.label_lookup.specs.Labelling.{Labelling}
 use Rattle.flow_files.specs.declared.by_file.ByFile.{ByFile}
@@ -58,7 +57,7 @@ module _ {R : Type 0} (answers : Text → Option R → Type 0) (input : R → In
       AreSound refusal names file.now × answers file.now None
   IsFaultOfFiles refusal names (CannotRead file) = AreSound refusal names file.now
       × (opened last : R) × WasRead file.now opened last × ((input last).failed ≡ true)
-      × (stop : ReadFault) × StopsReading (input last).returned stop
+      × StopsReading (input last).returned
   IsFaultOfFiles refusal names (File file fault) = (before : AreSound refusal names file.now)
       × (opened last : R) × WasRead file.now opened last × ((input last).failed ≡ false)
       × ((texts : List Text) (text : Text)

@@ -9,8 +9,6 @@ use Rattle.ipfix_read.specs.declared.fault.ReadFaultKind.TheVariants.{ReadFault 
 abbrev pub read_fault : ℕ → ReadFault
 read_fault offset = record { kind = Unread; offset = offset }
 
--- Below: only contracts of parts and proofs use these; no promise of the program rests on them.
-
 -- an allocation failed, which has no position
 abbrev pub out_of_memory : ReadFault
 out_of_memory = record { kind = NoMemory; offset = 0 }

@@ -1,4 +1,4 @@
-use Rattle.std.specs.Prelude.{◌≡◌, ℕ, ◌+◌, ◌<◌, List, [], ◌++◌, length, None, ◌⊎◌, Bool, true, false, ◌∷◌, Option, Some, Result, Ok, Err, ◌==◌, fold, map}
+use Rattle.std.specs.Prelude.{◌≡◌, ℕ, ◌+◌, ◌<◌, List, [], ◌++◌, length, None, ◌⊎◌, Bool, true, false, ◌∷◌, Option, Some, Result, Ok, Err, IfErr, ◌==◌, fold, map}
 use Rattle.std.specs.Result.{result_map_both}
 use Rattle.flow_io.specs.Devices.{InputView, MayFollow, ReadsInput, Gives, has_ended}
 use Rattle.ipfix_templates.specs.Reading.{after_items, items_from}
@@ -25,6 +25,13 @@ messages_from templates count offset bytes =
 abbrev pub file_reading : List ℕ → Result (List MessageView) ReadFault
 file_reading bytes = messages_from no_templates 0 0 bytes
 
+-- A File may go on after these bytes: they have no fault, but may end within a message.
+abbrev pub StopsReading : List ℕ → Type 0
+StopsReading bytes = IfErr (file_reading bytes) (λ fault.
+    (fault.kind ≡ TruncatedHeader) ⊎ (fault.kind ≡ TruncatedMessage))
+
+-- Below: only contracts of parts and proofs use these; no promise of the program rests on them.
+
 -- The bytes so far have no fault, but may end within a message, and this is the fault of a reader that failed there. The
 -- fault has the offset of the message that was being read. `size` is the number of the bytes.
 abbrev pub StopsAfter : ℕ → Result (List MessageView) ReadFault → ReadFault → Type 0
@@ -33,15 +40,10 @@ StopsAfter size (Err fault) stop =
     ((fault.kind ≡ TruncatedHeader) ⊎ (fault.kind ≡ TruncatedMessage))
     × (stop ≡ read_fault fault.offset)
 
--- this is so of bytes that are read on, and of those of a whole File
+-- this is so of bytes that begin at an offset
 abbrev pub StopsFrom : InForce → ℕ → ℕ → List ℕ → ReadFault → Type 0
 StopsFrom templates count offset bytes stop =
     StopsAfter (offset + length bytes) (messages_from templates count offset bytes) stop
-
-abbrev pub StopsReading : List ℕ → ReadFault → Type 0
-StopsReading bytes stop = StopsFrom no_templates 0 0 bytes stop
-
--- Below: only contracts of parts and proofs use these; no promise of the program rests on them.
 
 -- The messages in bytes, each with the offset at which it begins.
 abbrev pub placed_from : InForce → ℕ → ℕ → List ℕ → Result (List (ℕ × MessageView)) ReadFault
