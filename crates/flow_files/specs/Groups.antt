@@ -1,6 +1,4 @@
-use Rattle.std.specs.Prelude.{◌∷◌, ◌++◌, [], Bool, List, Option, codes, decimal, find, length, map, sum_by, unwrap_or}
-use Rattle.std.specs.Option.{option_map_or}
-use Rattle.std.specs.Str.{bytes_eq}
+use Rattle.std.specs.Prelude.{◌∷◌, ◌++◌, [], Bool, List, Option, codes, decimal, if◌then◌else◌, is_some, length, map, sum_by, unwrap_or}
 use Rattle.prefix_keys.specs.Print.{address_text}
 use Rattle.label_lookup.specs.Labelling.{Labelling, label_by, label_where}
 use Rattle.ipfix_read.specs.Message.{MessageView}
@@ -11,7 +9,7 @@ use Rattle.flow_uniq.specs.Grouped.{AreGrouped, row_groups}
 use Rattle.flow_uniq.specs.Key.{field_name}
 use Rattle.flow_uniq.specs.Times.{unit_start}
 use Rattle.flow_uniq.specs.declared.field.KeyField.{KeyField}
-use Rattle.flow_uniq.specs.declared.field.KeyField.TheVariants.{Start}
+use Rattle.flow_uniq.specs.declared.field.KeyField.TheVariants.{DestinationAddress, DestinationLabel, DestinationPort, Flags, Protocol, SourceAddress, SourceLabel, SourcePort, Start}
 use Rattle.pmap_print.specs.Reports.{group_titles}
 use Rattle.pmap_print.specs.Table.{table_text}
 use Rattle.pmap_print.specs.Times.{time_text}
@@ -20,25 +18,29 @@ use Rattle.flow_files.specs.Sources.{Text}
 
 -- Tables of groups of rows, in a row's own terms.
 
--- the columns of a row, each with its title and the row's field; the last two are the labels of its addresses, if there is
--- a labelling
+-- the text of what a row has in a field; that of a missing label is empty
+abbrev pub field_text : Option Labelling → RowView → KeyField → Text
+field_text labels row SourceAddress = address_text row.version row.src
+field_text labels row DestinationAddress = address_text row.version row.dst
+field_text labels row SourcePort = decimal row.sport
+field_text labels row DestinationPort = decimal row.dport
+field_text labels row Protocol = decimal row.protocol
+field_text labels row Flags = decimal row.flags
+field_text labels row SourceLabel = unwrap_or (label_where labels (row.version, row.src)) []
+field_text labels row DestinationLabel = unwrap_or (label_where labels (row.version, row.dst)) []
+field_text labels row (Start unit) = time_text unit.precision (unit_start unit row.start_ms)
+
+-- the columns of a row, each with its title and its text; the last two are the labels of its addresses, if there is a
+-- labelling
 abbrev pub row_columns : Option Labelling → RowView → List (Text × Text)
 row_columns labels row =
-    (codes "sip", address_text row.version row.src)
-    ∷ (codes "dip", address_text row.version row.dst)
-    ∷ (codes "sport", decimal row.sport) ∷ (codes "dport", decimal row.dport)
-    ∷ (codes "proto", decimal row.protocol) ∷ (codes "flags", decimal row.flags)
+    let column : KeyField → Text × Text = λ field.
+    (field_name field, field_text labels row field) in
+    column SourceAddress ∷ column DestinationAddress ∷ column SourcePort ∷ column DestinationPort
+    ∷ column Protocol ∷ column Flags
     ∷ (codes "packets", decimal row.packets) ∷ (codes "bytes", decimal row.octets)
     ∷ (codes "stime", decimal row.start_ms) ∷ (codes "etime", decimal row.end_ms)
-    ∷ option_map_or (λ l. (codes "src-label", unwrap_or (label_by l (row.version, row.src)) [])
-    ∷ (codes "dst-label", unwrap_or (label_by l (row.version, row.dst)) []) ∷ []) labels []
-
--- the text of a field of a row: of its column, empty if there is no such column, or of the start of a unit of time
-abbrev pub field_text : Option Labelling → RowView → KeyField → Text
-field_text labels row (Start unit) = time_text unit.precision (unit_start unit row.start_ms)
-field_text labels row field =
-    option_map_or (λ c. c.1)
-    (find (λ c. bytes_eq c.0 (field_name field)) (row_columns labels row)) []
+    ∷ (if is_some labels then column SourceLabel ∷ column DestinationLabel ∷ [] else [])
 
 -- The table of groups, each given as its first row and the others. The line of a group has the texts of the fields of the
 -- first row, the number of its rows, and the sums of their packets and bytes.
