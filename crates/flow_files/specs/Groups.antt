@@ -1,10 +1,7 @@
 use Rattle.std.specs.Prelude.{◌∷◌, ◌++◌, [], Bool, List, Option, codes, decimal, if◌then◌else◌, is_some, length, map, sum_by, unwrap_or}
 use Rattle.prefix_keys.specs.Print.{address_text}
-use Rattle.label_lookup.specs.Labelling.{Labelling, label_by, label_where}
-use Rattle.ipfix_read.specs.Message.{MessageView}
-use Rattle.flow_rows.specs.Counts.{rows_of_messages}
+use Rattle.label_lookup.specs.Labelling.{Labelling, label_where}
 use Rattle.flow_rows.specs.Elements.{RowView}
-use Rattle.flow_filter.specs.Condition.{Condition, passing}
 use Rattle.flow_uniq.specs.Grouped.{AreGrouped, row_groups}
 use Rattle.flow_uniq.specs.Key.{field_name}
 use Rattle.flow_uniq.specs.Times.{unit_start}
@@ -52,12 +49,11 @@ groups_table fields columns labels groups =
     ++ decimal (length rows) ∷ decimal (sum_by (λ r. r.packets) rows)
     ∷ decimal (sum_by (λ r. r.octets) rows) ∷ []) groups)
 
--- what `uniq` prints: the groups, by fields, of the rows of messages that meet a condition
-abbrev pub uniq_text : List KeyField → Condition → (sorted columns : Bool) → Option Labelling
-    → List MessageView → Text
-uniq_text fields condition sorted columns labels messages = groups_table fields columns labels
-    (row_groups (label_where labels) fields sorted
-    (passing condition labels (rows_of_messages messages)))
+-- what `uniq` prints: the groups of rows by fields
+abbrev pub uniq_text : List KeyField → (sorted columns : Bool) → Option Labelling → List RowView
+    → Text
+uniq_text fields sorted columns labels rows =
+    groups_table fields columns labels (row_groups (label_where labels) fields sorted rows)
 
 -- the outcome is a table of groups of the rows
 abbrev pub PrintsGroups : List KeyField → Bool → Bool → Option Labelling → List RowView → Outcome

@@ -1,9 +1,7 @@
 //! Laws about the definitions.
 ghost use Rattle.std.specs.Prelude.{Bool, List, Ok, Option};
 ghost use Rattle.label_lookup.specs.Labelling.{Labelling};
-ghost use Rattle.ipfix_read.specs.Message.{MessageView};
-ghost use Rattle.flow_rows.specs.Counts.{rows_of_messages};
-ghost use Rattle.flow_filter.specs.Condition.{Condition, passing};
+ghost use Rattle.flow_rows.specs.Elements.{RowView};
 ghost use Rattle.flow_uniq.specs.declared.field.KeyField.{KeyField};
 ghost use Rattle.flow_files.specs.Groups.{PrintsGroups, uniq_text};
 ghost use Rattle.flow_files.specs.Laws.{AnsweredWordsAreTaken, AreShared, SubcommandsAreAdded};
@@ -28,11 +26,10 @@ pub fn shared_arguments() -> ([Argument<'static>; 2], [Argument<'static>; 10])
     (SOURCES, FILTERS)
 }
 
-/// The text that `uniq` prints is a table of the groups of the rows that meet the condition.
+/// The text that `uniq` prints for rows is a table of their groups.
 pub fn uniq_prints_groups()
-    ensures { (fields : List KeyField) (condition : Condition) (sorted columns : Bool) (labels : Option Labelling)
-        (messages : List MessageView) → PrintsGroups fields sorted columns labels
-        (passing condition labels (rows_of_messages messages)) (Ok (uniq_text fields condition sorted columns labels messages)) }
+    ensures { (fields : List KeyField) (sorted columns : Bool) (labels : Option Labelling) (rows : List RowView)
+        → PrintsGroups fields sorted columns labels rows (Ok (uniq_text fields sorted columns labels rows)) }
 {
     rows_are_grouped_by_fields();
 }

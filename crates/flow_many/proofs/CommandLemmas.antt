@@ -41,7 +41,7 @@ labels_found source found had labels_text are = let (labels, reads, is) = had.gi
 -- the text of the groups of sums is what `uniq` prints
 pub sums_text : (first now : Sums) (files : List (List Placed)) (keys : List KeyField) (condition : Condition) (columns : Bool) (labels : Option Labelling)
     → HasSummedFiles first files now → first.rows.groups.fields ≡ keys → first.filter.now ≡ condition → labelling_found first.labels ≡ labels
-    → uniq_text keys condition true columns labels (all_messages files)
+    → uniq_text keys true columns labels (passing_rows condition labels (all_messages files))
     ≡ groups_text now.rows.groups.fields (shown_groups true now.rows.groups.groups) columns
 sums_text first now files keys condition columns labels has keys_are condition_is labels_are =
     let groups = has.rows.groups has.early in

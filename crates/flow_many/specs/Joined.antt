@@ -2,7 +2,8 @@
 use Rattle.std.specs.Prelude.{◌≡◌, Bool, List, ◌∷◌, Ok, Option, map, true}
 use Rattle.ipfix_read.specs.Laws.{CanFollow, File, joined}
 use Rattle.ipfix_read.specs.Messages.{file_reading}
-use Rattle.flow_filter.specs.Condition.{Condition}
+use Rattle.flow_rows.specs.Counts.{rows_of_messages}
+use Rattle.flow_filter.specs.Condition.{Condition, passing}
 use Rattle.flow_uniq.specs.declared.field.KeyField.{KeyField}
 use Rattle.label_lookup.specs.Labelling.{Labelling}
 use Rattle.flow_files.specs.Groups.{uniq_text}
@@ -18,5 +19,6 @@ SumOfJoinedFile = (first : File) (later : List File) → CanFollow first later
     → let whole = joined (first ∷ later) in
     (file_reading whole.0 ≡ Ok whole.1)
     × ((fields : List KeyField) (condition : Condition) (columns : Bool) (labels : Option Labelling)
-    → uniq_text fields condition true columns labels (all_messages read)
-    ≡ uniq_text fields condition true columns labels whole.1)
+    → uniq_text fields true columns labels
+    (passing condition labels (rows_of_messages (all_messages read)))
+    ≡ uniq_text fields true columns labels (passing condition labels (rows_of_messages whole.1)))

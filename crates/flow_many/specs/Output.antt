@@ -2,7 +2,7 @@ use Rattle.std.specs.Prelude.{ℕ, ◌&&◌, Bool, true, false, not, List, ◌�
 use Rattle.std.specs.List.{flat_map, list_any}
 use Rattle.pmap_model.specs.Steps.{◌>>=◌}
 use Rattle.ipfix_read.specs.Message.{MessageView}
-use Rattle.flow_rows.specs.Counts.{is_skipped, rows_of_sets}
+use Rattle.flow_rows.specs.Counts.{is_skipped, rows_of_messages, rows_of_sets}
 use Rattle.flow_rows.specs.Elements.{RowView}
 use Rattle.flow_filter.specs.Condition.{Condition, passing}
 use Rattle.flow_uniq.specs.declared.field.KeyField.{KeyField}
@@ -81,7 +81,8 @@ refusal_of (Messages names) labels = λ before message. None
 
 abbrev pub text_for : Command → Option Labelling → List (List Placed) → Text
 text_for (Sum fields source condition allowed columns names) labels files =
-    uniq_text fields condition true columns labels (all_messages files)
+    uniq_text fields true columns labels
+    (passing condition labels (rows_of_messages (all_messages files)))
 text_for (Messages names) labels files = messages_text files
 
 -- The outcome of a command for the text of its map or list, if it has one, and those of its Files: the first fault, of

@@ -66,8 +66,8 @@ IsOutput (Rows labels condition columns flows) texts = Then (λ read. Prints (ta
     (labelled_row_lines read.0 (passing condition read.0 (rows_of_messages read.1)))))
     (report_reading labels texts)
 IsOutput (Uniq fields labels condition sorted columns flows) texts =
-    Then (λ read. Prints (uniq_text fields condition sorted columns read.0 read.1))
-    (report_reading labels texts)
+    Then (λ read. Prints (uniq_text fields sorted columns read.0
+    (passing condition read.0 (rows_of_messages read.1)))) (report_reading labels texts)
 IsOutput (Cat labels) texts = Then (λ l outcome.
     (text : Text) × IsRunsText l.version l.label text × Prints text outcome)
     (labels_reading labels texts)

@@ -4,7 +4,7 @@ use Rattle.pmap_model.specs.Steps.{◌>>=◌}
 use Rattle.flow_uniq.specs.Groups.{GroupsModel, shown_groups}
 use Rattle.pmap_print.specs.Reports.{groups_text}
 use Rattle.flow_files.specs.Groups.{uniq_text}
-use Rattle.flow_files.specs.Reports.{labelling_found, labelling_read}
+use Rattle.flow_files.specs.Reports.{labelling_found, labelling_read, passing_rows}
 use Rattle.flow_files.proofs.ReadLemmas.{found_is, handed_on}
 use Rattle.flow_many.specs.Files.{Refusal, files_reading, of_file}
 use Rattle.flow_many.specs.Output.{all_messages, has_time, refusal_by}
@@ -43,9 +43,9 @@ returns g c =
     (λ labels_text texts are given. let (files, reads, has) = have texts given in
     ap (λ found. of_file 0 found >>= (λ labels.
     files_reading (refusal_by (has_time asked.keys.now) asked.filter.now asked.allow_skipped labels) texts >>= (λ files.
-    Ok (uniq_text asked.keys.now asked.filter.now true asked.columns labels (all_messages files)))))
+    Ok (uniq_text asked.keys.now true asked.columns labels (passing_rows asked.filter.now labels (all_messages files))))))
     (labels_found asked.labels c.in_ok-read.read c.in_ok-read.ensures.read labels_text are)
-    ∙ ap (λ read. read >>= (λ files. Ok (uniq_text asked.keys.now asked.filter.now true asked.columns labels (all_messages files))))
+    ∙ ap (λ read. read >>= (λ files. Ok (uniq_text asked.keys.now true asked.columns labels (passing_rows asked.filter.now labels (all_messages files)))))
     (ap (λ r. files_reading r texts) (sym refusal) ∙ reads)
     ∙ ap Ok (sums_text c.in_ok-sums.sums sums files asked.keys.now asked.filter.now asked.columns labels has c.in_ok-sums.ensures.fields
     c.in_ok-sums.ensures.filter (c.in_ok-sums.ensures.labels ∙ labels_are)))

@@ -33,7 +33,8 @@ returns c (Sum fields source condition allowed columns names) labels_text texts 
     let refusal = refusal_by (has_time fields) condition allowed labels in
     let (files, reads, prints) = first_ok (files_reading refusal texts) _ out rest in
     let read = are_read refusal 1 0 texts files reads in
-    let grouped = c.uniq_prints_groups.ensures fields condition true columns labels (all_messages files) in (
+    let rows = passing condition labels (rows_of_messages (all_messages files)) in
+    let grouped = c.uniq_prints_groups.ensures fields true columns labels rows in (
       labels,
       file_ok 0 (source_reading source labels_text) labels found,
       map messages_in files,
@@ -41,8 +42,7 @@ returns c (Sum fields source condition allowed columns names) labels_text texts 
       λ refuses. none_skipped (has_time fields) condition labels files
           (subst (λ (a : Bool). AreRead (refusal_by (has_time fields) condition a labels) texts files) refuses read).allowed,
       subst (λ (rows : List RowView). PrintsGroups fields true columns labels (passing condition labels rows) (Ok out)) (rows_are files)
-          (subst (λ (text : Text). PrintsGroups fields true columns labels
-          (passing condition labels (rows_of_messages (all_messages files))) (Ok text)) (printed _ (uniq_text fields condition true columns labels (all_messages files)) out refl prints) grouped),
+          (subst (λ (text : Text). PrintsGroups fields true columns labels rows (Ok text)) (printed _ (uniq_text fields true columns labels rows) out refl prints) grouped),
     )
 returns c (Messages names) labels_text texts out is =
     let (files, reads, prints) = first_ok (files_reading (λ before message. None) texts) _ out is in

@@ -141,7 +141,7 @@ module _ (first : File) (later : List File) (follow : CanFollow first later) (te
       let grouped : Option Labelling → List RowView → List GroupModel = λ l rows. shown_groups sorted (groups_of fields (label_where l) rows) in
       let printed : List GroupModel → Text = λ groups. groups_text fields groups columns in
       let rest : Option Labelling × List MessageView → Outcome → Type 0 =
-      λ read. Prints (uniq_text fields condition sorted columns read.0 read.1) in
+      λ read. Prints (uniq_text fields sorted columns read.0 (passing condition read.0 (rows_of_messages read.1))) in
       let l : Option Labelling = (found rest labels is).0 in
       let groups : grouped l (shown condition l whole) ≡ shown_groups sorted (merged (flat_map (λ file. grouped l (shown condition l file)) files)) =
       ap (grouped l) (shown_are condition l ∙ sym (changed_parts (λ (rows : List RowView). rows) (shown condition l) files))
@@ -151,7 +151,7 @@ module _ (first : File) (later : List File) (follow : CanFollow first later) (te
         (
           each_prints rest labels is (λ file. printed (grouped l (shown condition l file)))
               (λ file. ap Ok (groups-table fields sorted columns l (shown condition l file))),
-          text_is out (uniq_text fields condition sorted columns l whole.1) (found rest labels is).2
+          text_is out (uniq_text fields sorted columns l (shown condition l whole)) (found rest labels is).2
               ∙ sym (groups-table fields sorted columns l (shown condition l whole)) ∙ ap printed groups,
         ),
       )

@@ -42,7 +42,8 @@ returns c (Rows file condition columns flows) texts =
     prints_one (λ (read : Option Labelling × List MessageView).
     table_text columns (labelled_row_lines read.0 (passing condition read.0 (rows_of_messages read.1)))) (report_reading file texts)
 returns c (Uniq fields file condition sorted columns flows) texts =
-    prints_one (λ (read : Option Labelling × List MessageView). uniq_text fields condition sorted columns read.0 read.1) (report_reading file texts)
+    prints_one (λ (read : Option Labelling × List MessageView).
+    uniq_text fields sorted columns read.0 (passing condition read.0 (rows_of_messages read.1))) (report_reading file texts)
 returns c (Cat file) texts =
     value_one _ (labels_reading file texts) (λ labels reads.
     let (runs, are) = c.labelling_has_its_runs.ensures.exist labels.version labels.label in

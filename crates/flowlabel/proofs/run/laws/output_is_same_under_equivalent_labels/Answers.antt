@@ -32,6 +32,7 @@ returns c name texts m l reads_map reads_list equivalent =
       λ addr. both (Then (λ l. Prints (label_text (addr.version, addr.value) l))),
       (λ condition columns. both (λ labels. Then (λ read. Prints (table_text columns
           (labelled_row_lines read.0 (passing condition read.0 (rows_of_messages read.1))))) (report labels))),
-      (λ fields condition sorted columns. both (λ labels. Then (λ read. Prints (uniq_text fields condition sorted columns read.0 read.1)) (report labels))),
+      (λ fields condition sorted columns. both (λ labels. Then (λ read. Prints (uniq_text fields sorted columns read.0
+          (passing condition read.0 (rows_of_messages read.1)))) (report labels))),
       both (Then (λ l outcome. (text : Text) × IsRunsText l.version l.label text × Prints text outcome)),
     )

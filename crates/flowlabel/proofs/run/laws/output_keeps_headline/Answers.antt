@@ -73,7 +73,7 @@ returns c (Rows file condition columns flows) texts out is =
 returns c (Uniq fields file condition sorted columns flows) texts out is =
     keep_over _ _ (report_reading file texts) is (λ read made.
     subst (λ (outcome : Outcome). PrintsGroups fields sorted columns read.0 (passing condition read.0 (rows_of_messages read.1)) outcome) (sym made)
-    (c.uniq_prints_groups.ensures fields condition sorted columns read.0 read.1))
+    (c.uniq_prints_groups.ensures fields sorted columns read.0 (passing condition read.0 (rows_of_messages read.1))))
 returns c (Cat file) texts out is =
     keep_over _ _ (labels_reading file texts) is (λ labels (lines, runs, made). (
       runs.runs,

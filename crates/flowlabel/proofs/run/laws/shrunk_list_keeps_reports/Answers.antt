@@ -39,7 +39,7 @@ returns c name texts m messages printed reads reads_flows is =
                 let says = c.output_keeps_headline.ensures (Rows (Some (Map name)) condition columns name) texts out under_map in
                 (out, under_map, ((under.1 condition columns) (Ok out)).0 with_list, rw (reads, reads_flows) at says),
             λ fields condition sorted columns.
-                let out : Text = uniq_text fields condition sorted columns (Some (labelling_of_map m)) messages in
+                let out : Text = uniq_text fields sorted columns (Some (labelling_of_map m)) (passing condition (Some (labelling_of_map m)) (rows_of_messages messages)) in
                 let under_map : IsOutput (Uniq fields (Some (Map name)) condition sorted columns name) texts (Ok out) = rw (reads, reads_flows) refl in
                 let with_list : IsOutput (Uniq fields (Some (Map name)) condition sorted columns name) given (Ok out) = under_map in
                 let says = c.output_keeps_headline.ensures (Uniq fields (Some (Map name)) condition sorted columns name) texts out under_map in
