@@ -392,10 +392,10 @@ module _ {R : Type 0} {input : R → InputView} where
 
 -- what a report is on, once its labels are read
 abbrev pub report_after : Option Labelling → ByFile Text → Result (Option Labelling × List MessageView) BytesFault
-report_after labels texts = flows_in texts >>= (λ messages. Ok (labels, messages))
+report_after labels texts = result_map_both (λ messages. (labels, messages)) InFlows (file_reading texts.flows)
 
 pub flows_last : (labels : Option Labelling) (reading : Result (List MessageView) ReadFault) (fault : BytesFault)
-    → ◌>>=◌ {B = Option Labelling × List MessageView} (with_bytes_fault InFlows reading) (λ messages. Ok (labels, messages)) ≡ Err fault → role_of fault ≡ role.Flows
+    → result_map_both {U = Option Labelling × List MessageView} (λ messages. (labels, messages)) InFlows reading ≡ Err fault → role_of fault ≡ role.Flows
 flows_last labels (Ok messages) fault fails = cc
 flows_last labels (Err own) fault fails = let same : fault ≡ InFlows own = cc in ap role_of same
 
@@ -417,10 +417,11 @@ module _ {R : Type 0} {input : R → InputView} (source : Option LabelFile) {old
           some (Err fault) is = cc
 
   pub report_is : (flows : Option (Source R)) (texts : ByFile Text) → AreTextsBefore input 2 (with_at role.Flows flows mid) texts
-      → report_reading source texts ≡ report_after (option_map labelling_read found) texts
+      → report_reading source texts ≡ (flows_in texts >>= (λ messages. Ok (option_map labelling_read found, messages)))
   report_is flows texts given =
       let (labels, reads, is) = had.gives.1 texts (as_before input role.Flows (omega arith) flows mid texts given) in
       ap (λ (r : Result (Option Labelling) BytesFault). r >>= (λ labels. report_after labels texts)) (reads ∙ ap Ok is)
+      ∙ mapped (λ (messages : List MessageView). (option_map labelling_read found, messages)) InFlows (file_reading texts.flows)
 
 -- an index that is borrowed has the labelling of the index
 pub found_is : (lent : Option (Bor StretchModel)) (owned : Option StretchModel) (labels : Option Labelling)

@@ -33,7 +33,7 @@ source_reading (Some file) texts = labels_reading file texts >>= (λ l. Ok (Some
 abbrev pub report_reading : Option LabelFile → ByFile Text
     → Result (Option Labelling × List MessageView) BytesFault
 report_reading source texts = source_reading source texts >>= (λ labels.
-    with_bytes_fault InFlows (file_reading texts.flows) >>= (λ messages. Ok (labels, messages)))
+    result_map_both (λ messages. (labels, messages)) InFlows (file_reading texts.flows))
 
 -- a text, or the first fault
 abbrev pub Outcome : Type 0

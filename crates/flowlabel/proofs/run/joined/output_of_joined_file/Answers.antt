@@ -2,6 +2,7 @@ use Rattle.std.proofs.Common.{◌≡◌, ◌∙◌, [], ◌∷◌, ◌++◌, All
 use Rattle.std.specs.Prelude.{is_some}
 use Rattle.std.specs.Borrow.{Bor}
 use Rattle.std.specs.List.{flat_map}
+use Rattle.std.specs.Result.{result_map_both}
 use Rattle.std.proofs.lemmas.List.{map-append}
 use Rattle.std.proofs.lemmas.List.Elements.{All-cons, All-weaker, filter-append}
 use Rattle.ipfix_read.specs.Message.{MessageView}
@@ -64,7 +65,7 @@ same_source (Some (Prefixes file)) flows texts = refl
 -- what a report over a File that is read is on, by the labels
 report_over : (labels : Option LabelFile) (texts : ByFile Text) (file : File) → IsRead file
     → report_reading labels (with_at role.Flows file.0 texts) ≡ (source_reading labels texts >>= (λ l. Ok (l, file.1)))
-report_over labels texts file read = λ i. same_source labels file.0 texts i >>= (λ l. with_bytes_fault InFlows (read i) >>= (λ messages. Ok (l, messages)))
+report_over labels texts file read = λ i. same_source labels file.0 texts i >>= (λ l. result_map_both (λ messages. (l, messages)) InFlows (read i))
 
 -- ---- the commands
 
