@@ -11,8 +11,8 @@ use Rattle.ipfix_templates.specs.declared.layout.Place.{Place}
 use Rattle.ipfix_templates.specs.Layout.{place_of_element}
 use Rattle.ipfix_templates.specs.Runs.{runs_from}
 use Rattle.ipfix_read.specs.Value.{FieldValueView, bytes_at, value_at, values_at, variable_at}
-use Rattle.flow_rows.specs.Elements.{big_endian, element}
-use Rattle.flow_rows.specs.Inner.{after_values, bytes_there, number_there}
+use Rattle.flow_rows.specs.Elements.{element}
+use Rattle.flow_rows.specs.Inner.{after_values, big_endian, bytes_there, number_there}
 use Rattle.flow_rows.proofs.Usable.{has_other_length}
 
 -- the bytes that are there are the first ones

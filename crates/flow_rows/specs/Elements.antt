@@ -26,14 +26,12 @@ pub record RowView : Type 0 where
 
 -- The numbers of a row's information elements in a record.
 
--- the number of bytes in network byte order
-abbrev pub big_endian : List ℕ → ℕ
-big_endian bytes = big_number (length bytes) bytes
-
--- the number of an element of a direction in values: that of the first value whose field is usable for it
+-- the number of an element of a direction in values: that of the bytes, in network byte order, of the first value whose
+-- field is usable for it
 abbrev pub element : Option ℕ → List FieldValueView → ℕ → Option ℕ
 element direction values number =
-    option_map (λ v. big_endian v.value) (find (λ v. is_usable direction number v.field) values)
+    option_map (λ v. big_number (length v.value) v.value)
+    (find (λ v. is_usable direction number v.field) values)
 
 -- The rows of a record, from the numbers of its elements.
 
@@ -44,19 +42,21 @@ count_of delta total said = unwrap_or (option_or (said delta) (said total)) 0
 
 -- the row between two addresses of a version, if both exist; missing numbers are 0
 abbrev pub row_between : Version → Option ℕ → Option ℕ → (ℕ → Option ℕ) → Option RowView
-row_between version (Some src) (Some dst) said = Some (record {
-  version = version;
-  src = src;
-  dst = dst;
-  sport = unwrap_or (said 7) 0;
-  dport = unwrap_or (said 11) 0;
-  protocol = unwrap_or (said 4) 0;
-  flags = unwrap_or (said 6) 0;
-  packets = count_of 2 86 said;
-  octets = count_of 1 85 said;
-  start_ms = unwrap_or (said 152) 0;
-  end_ms = unwrap_or (said 153) 0;
-})
+row_between version (Some src) (Some dst) said =
+    let number : ℕ → ℕ = λ e. unwrap_or (said e) 0 in
+    Some (record {
+      version = version;
+      src = src;
+      dst = dst;
+      sport = number 7;
+      dport = number 11;
+      protocol = number 4;
+      flags = number 6;
+      packets = count_of 2 86 said;
+      octets = count_of 1 85 said;
+      start_ms = number 152;
+      end_ms = number 153;
+    })
 row_between version _ _ said = None
 
 -- the row of the numbers of the elements: between the IPv4 addresses, or otherwise between the IPv6 addresses

@@ -1,4 +1,4 @@
-use Rattle.std.specs.Prelude.{◌≡◌, ℕ, ◌+◌, ◌≤◌, ◌==◌, All, List, [], ◌∷◌, map, take, Bool, Option, Some, None, option_and_then, option_map, unwrap_or, if◌then◌else◌}
+use Rattle.std.specs.Prelude.{◌≡◌, ℕ, ◌+◌, ◌≤◌, ◌==◌, All, List, [], ◌∷◌, length, map, take, Bool, Option, Some, None, option_and_then, option_map, unwrap_or, if◌then◌else◌}
 use Rattle.prefix_keys.specs.declared.version.Version.{Version}
 use Rattle.prefix_keys.specs.declared.version.Version.TheVariants.{V4, V6}
 use Rattle.ipfix_templates.specs.declared.field.Field.{Field}
@@ -10,7 +10,8 @@ use Rattle.ipfix_templates.specs.Layout.{layout_of}
 use Rattle.ipfix_templates.specs.Runs.{runs_from}
 use Rattle.ipfix_read.specs.declared.record.Record.{Record}
 use Rattle.ipfix_read.specs.Value.{bytes_at, variable_at}
-use Rattle.flow_rows.specs.Elements.{RowView, big_endian}
+use Rattle.byteorder.specs.Endian.{big_number}
+use Rattle.flow_rows.specs.Elements.{RowView}
 
 -- What is read at the places of a row's numbers. This is private, and callers of the crate need not read it.
 
@@ -25,6 +26,10 @@ abbrev pub bytes_there : Place → List ℕ → List ℕ → Option (List ℕ)
 bytes_there p runs bytes =
     option_and_then (λ rest. option_and_then (λ f. option_map (λ v. v.0) (bytes_at p.length f.1)) (bytes_at p.offset rest))
     (after_values (take p.skips runs) bytes)
+
+-- the number of bytes in network byte order
+abbrev pub big_endian : List ℕ → ℕ
+big_endian bytes = big_number (length bytes) bytes
 
 -- the number there, or 0
 abbrev pub number_there : Place → List ℕ → List ℕ → ℕ

@@ -18,13 +18,14 @@ use Rattle.ipfix_templates.specs.Reading.{after_items, items_by, template_set_re
 use Rattle.ipfix_templates.proofs.Choice.{gave, ok_is}
 use Rattle.ipfix_templates.proofs.Reading.{no_items}
 use Rattle.ipfix_read.specs.Fault.{BadRecord, BadSetLength}
-use Rattle.ipfix_read.specs.Record.{Record, data_set_reading, is_padding, record_at, record_next}
+use Rattle.ipfix_read.specs.Record.{Record, data_set_reading, is_padding, record_next}
 use Rattle.ipfix_read.specs.Set.{Set, Skipped, Templates, Values, after_set, content_reading, events_in, in_file, set_next, sets_reading, template_kind, written_length}
 use Rattle.ipfix_read.specs.Message.{MessageView, ReadFault, after_message, header_fault, message_next, whole_reading}
 use Rattle.ipfix_read.specs.Messages.{messages_from}
 use Rattle.ipfix_read.specs.Laws.{File, FileAfterFile, JoinedFileIsRead, IsSelfContained, joined, lacks_template}
 use Rattle.ipfix_read.proofs.Gathering.{header_none, header_sound, own_ahead, own_none, written_ahead}
 use Rattle.ipfix_read.proofs.Readings.{first_message_and_rest, message_headed, message_read, message_whole, messages_fault}
+use Rattle.ipfix_read.proofs.RecordValues.{record_at}
 use Rattle.ipfix_read.proofs.Sets.{result_mapped}
 
 -- ---- more templates in force

@@ -16,11 +16,15 @@ use Rattle.std.proofs.lemmas.List.Sums.{sum_by-cons}
 use Rattle.ipfix_templates.specs.declared.template.Template.{Template}
 use Rattle.ipfix_read.specs.declared.fault.ReadFault.{ReadFault}
 use Rattle.ipfix_read.specs.Fault.{BadRecord}
-use Rattle.ipfix_read.specs.Record.{Record, data_set_reading, is_padding, record_at, record_next}
+use Rattle.ipfix_read.specs.Record.{Record, data_set_reading, is_padding, record_next}
 use Rattle.std.proofs.Math.Nat.{add-mul, le-div_iff_mul-le, suc-mul}
 use Rattle.std.proofs.lemmas.List.Elements.{All-cons, All-nil}
 use Rattle.ipfix_templates.specs.declared.kind.Kind.{Kind}
 use Rattle.ipfix_read.specs.WholeRecords.{AreInBytes, ArePacked, whole_records}
+
+-- the record of a template at the start of the bytes, and the bytes after it
+abbrev pub record_at : Template → List ℕ → Option (Record × List ℕ)
+record_at t bytes = option_map (λ v. (record { kind = t.kind; fields = v.0 }, v.1)) (values_at t.fields bytes)
 
 whole_step : (field : Field) (fields : List Field) (bytes : List ℕ) (v : List ℕ × List ℕ) → value_at field bytes ≡ Some v
     → whole_values (field ∷ fields) bytes ≡ record { field = field; value = v.0 } ∷ whole_values fields v.1

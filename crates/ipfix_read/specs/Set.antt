@@ -1,5 +1,5 @@
 -- The sets of a message (RFC 7011 section 3.3).
-use Rattle.std.specs.Prelude.{◌≡◌, ℕ, ◌+◌, List, [], length, take, drop, fold, Option, Some, None, Result, Ok, Err, nat_lt, ◌==◌, ◌||◌, if◌then◌else◌}
+use Rattle.std.specs.Prelude.{◌≡◌, ℕ, ◌+◌, List, [], ◌∷◌, length, take, drop, find, fold, Option, Some, None, Result, Ok, Err, nat_lt, ◌==◌, ◌||◌, if◌then◌else◌}
 use Rattle.std.specs.Option.{option_map_or}
 use Rattle.std.specs.Result.{result_map_both}
 use Rattle.byteorder.specs.Endian.{big_number}
@@ -28,8 +28,7 @@ after_set domain before set = fold (after_event domain) before (events_in set)
 
 -- the kind of the templates that a set with this ID holds, if it holds templates
 abbrev pub template_kind : ℕ → Option Kind
-template_kind id =
-    if id == set_id Flow then Some Flow else (if id == set_id Options then Some Options else None)
+template_kind id = find (λ kind. id == set_id kind) (Flow ∷ Options ∷ [])
 
 -- The content of a set with this ID, under the templates in force, or the first fault. Its bytes begin at this offset. It
 -- consists of templates, or of records under the template in force. It is skipped if its ID has no meaning or no template

@@ -1,12 +1,13 @@
 -- Reading one item after another, as a loop does.
 use Rattle.std.proofs.Common.{◌≡◌, false, ℕ, suc, ◌+◌, ◌-◌, ◌<◌, ◌≤◌, List, [], ◌∷◌, ◌++◌, length, Option, Some, None, refl, ap, append_assoc, arith, zero, drop, Result, Ok, Err, length-drop}
-use Rattle.std.specs.Prelude.{nat_lt, option_map}
+use Rattle.std.specs.Prelude.{nat_lt, ok_or, option_map}
 use Rattle.ipfix_templates.specs.Template.{Field, Kind, Flow, Options}
-use Rattle.ipfix_templates.specs.Reading.{field_at, fields_at, defined_by, definition_at, template_record_at, template_next, after_items, with_offset, items_from, TemplateFaultKind}
+use Rattle.ipfix_templates.specs.Reading.{Truncated, field_at, fields_at, defined_by, definition_at, template_record_at, after_items, with_offset, items_from, TemplateFaultKind}
 use Rattle.std.proofs.lemmas.Grind.{common_steps}
 use Rattle.std.proofs.lemmas.Bool.{ltb-false, lt-ltb, le-ltb}
 use Rattle.byteorder.specs.Endian.{big_number}
 use Rattle.ipfix_templates.specs.declared.event.TemplateEvent.{TemplateEvent}
+use Rattle.ipfix_templates.specs.declared.event.TemplateEvent.TheVariants.{Define}
 use Rattle.ipfix_templates.proofs.Choice.{gave, mapped, some_is, ok_is}
 use Rattle.ipfix_templates.proofs.Reading.{at_end, at_item}
 
@@ -46,9 +47,11 @@ fields_shorter (suc n) bytes x e =
     let b = mapped (fields_at n a.0.1) (λ fs. (a.0.0 ∷ fs.0, fs.1)) x a.2 in
     omega (arith, field_shorter bytes a.0 a.1, fields_shorter n a.0.1 b.0 b.1, ap (λ (y : List Field × List ℕ). length y.1) b.2)
 
-defined_shorter : (kind : Kind) (id scopes n : ℕ) (bytes : List ℕ) (x : TemplateEvent × List ℕ) → defined_by kind id scopes (fields_at n bytes) ≡ Ok x → length x.1 ≤ length bytes
+defined_shorter : (kind : Kind) (id scopes n : ℕ) (bytes : List ℕ) (x : TemplateEvent × List ℕ) → defined_by kind id scopes n bytes ≡ Ok x → length x.1 ≤ length bytes
 defined_shorter kind id scopes n bytes x e =
-    elim (fields_at n bytes) as (λ o. fields_at n bytes ≡ o → defined_by kind id scopes o ≡ Ok x → length x.1 ≤ length bytes) [
+    elim (fields_at n bytes) as (λ o. fields_at n bytes ≡ o
+    → ok_or (option_map (λ fs. (Define (record { id = id; kind = kind; scope_count = scopes; fields = fs.0 }), fs.1)) o) Truncated ≡ Ok x
+    → length x.1 ≤ length bytes) [
       | None ↦ λ p q. absurd (cc)
       | Some y ↦ λ p q. omega (arith, fields_shorter n bytes y p, ap (λ (z : TemplateEvent × List ℕ). length z.1) (ok_is _ _ q))
     ] refl e
@@ -68,6 +71,10 @@ record_shorter kind bytes x long e =
     let four = length-drop 4 bytes in grind (arith, common_steps)
 
 -- ---- consecutive records
+
+-- the template record at the start of bytes at this offset, and the bytes after it, or its fault
+abbrev template_next : Kind → ℕ → List ℕ → Result (TemplateEvent × List ℕ) (TemplateFaultKind × ℕ)
+template_next kind offset bytes = with_offset offset (template_record_at kind bytes)
 
 abbrev pub events_from : Kind → ℕ → List ℕ → Result (List TemplateEvent) (TemplateFaultKind × ℕ)
 events_from kind offset bytes = items_from (λ rest. nat_lt (length rest) 4) (λ _. template_next kind) (λ _ _. tt) (tt {0}) offset bytes

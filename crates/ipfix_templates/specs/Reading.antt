@@ -9,10 +9,6 @@ use Rattle.ipfix_templates.specs.declared.event.TemplateEvent.{TemplateEvent}
 use Rattle.ipfix_templates.specs.declared.event.TemplateEvent.TheVariants.{Define, Withdraw, WithdrawAll}
 pub use Rattle.ipfix_templates.specs.declared.fault.TemplateFaultKind.{TemplateFaultKind}
 
--- these items and then those of a reading, unless it is a fault
-abbrev pub after_items : {A F : Type 0} → List A → Result (List A) F → Result (List A) F
-after_items items reading = result_map_both (λ later. items ++ later) (λ fault. fault) reading
-
 -- Reading one item after another. `next` takes what came before, and the remaining bytes with their offset. It reads the
 -- item at the start of the bytes, and gives it with the bytes after it, or gives a fault. `with_one` adds
 -- the item to what came before. The items end at bytes that pass the test `ends`.
@@ -23,7 +19,7 @@ module _ {S A F : Type 0} (ends : List ℕ → Bool) (next : S → ℕ → List 
   items_by (suc most) before offset bytes =
       if ends bytes then Ok []
       else result_flatten (result_map_both
-      (λ x. after_items (x.0 ∷ [])
+      (λ x. result_map_both (λ later. x.0 ∷ later) (λ fault. fault)
       (items_by most (with_one before x.0) (offset + (length bytes - length x.1)) x.1))
       (λ fault. fault) (next before offset bytes))
 
@@ -58,23 +54,23 @@ fields_at zero bytes = Some ([], bytes)
 fields_at (suc n) bytes =
     option_and_then (λ f. option_map (λ fs. (f.0 ∷ fs.0, fs.1)) (fields_at n f.1)) (field_at bytes)
 
--- the definition that ends with these specifiers, and the bytes after it
-abbrev pub defined_by : Kind → ℕ → ℕ → Option (List Field × List ℕ)
+-- the definition that ends with `count` specifiers, and the bytes after it
+abbrev pub defined_by : Kind → ℕ → ℕ → ℕ → List ℕ
     → Result (TemplateEvent × List ℕ) TemplateFaultKind
-defined_by kind id scopes fields =
+defined_by kind id scopes count bytes =
     ok_or (option_map (λ fs.
-    (Define (record { id = id; kind = kind; scope_count = scopes; fields = fs.0 }), fs.1)) fields)
-    Truncated
+    (Define (record { id = id; kind = kind; scope_count = scopes; fields = fs.0 }), fs.1))
+    (fields_at count bytes)) Truncated
 
 -- the definition of `count` fields after its ID and field count; in an options template a scope field count comes first
 unfoldable pub definition_at : Kind → ℕ → ℕ → List ℕ
     → Result (TemplateEvent × List ℕ) TemplateFaultKind
-definition_at Flow id count bytes = defined_by Flow id 0 (fields_at count bytes)
+definition_at Flow id count bytes = defined_by Flow id 0 count bytes
 definition_at Options id count bytes =
     let scopes = big_number 2 bytes in
     if nat_lt (length bytes) 2 then Err Truncated
     else (if scopes == 0 || nat_lt count scopes then Err BadScope
-    else defined_by Options id scopes (fields_at count (drop 2 bytes)))
+    else defined_by Options id scopes count (drop 2 bytes))
 
 -- The template record at the start and the bytes after it, or the first fault of these bytes. A record without fields
 -- withdraws the template with its ID, or all of the kind if the ID is that of the set (section 8.1).
@@ -88,21 +84,20 @@ template_record_at kind bytes =
     else (if count == 0 then Ok (Withdraw id, drop 4 bytes)
     else definition_at kind id count (drop 4 bytes)))
 
--- the template record at the start of bytes at this offset, and the bytes after it, or its fault
-abbrev pub template_next : Kind → ℕ → List ℕ
-    → Result (TemplateEvent × List ℕ) (TemplateFaultKind × ℕ)
-template_next kind offset bytes =
-    result_map_both (λ item. item) (λ fault. (fault, offset)) (template_record_at kind bytes)
-
 -- the records of a template set, given the bytes after its header, or the first fault with its offset; fewer bytes than a
 -- record has are padding
 abbrev pub template_set_reading : Kind → List ℕ
     → Result (List TemplateEvent) (TemplateFaultKind × ℕ)
 template_set_reading kind bytes =
-    items_from (λ rest. nat_lt (length rest) 4) (λ _. template_next kind) (λ _ _. tt)
-    (tt {0}) 0 bytes
+    items_from (λ rest. nat_lt (length rest) 4)
+    (λ _ offset rest. result_map_both (λ item. item) (λ fault. (fault, offset))
+    (template_record_at kind rest)) (λ _ _. tt) (tt {0}) 0 bytes
 
 -- Below: only contracts of parts and proofs use these; no promise of the program rests on them.
+
+-- these items and then those of a reading, unless it is a fault
+abbrev pub after_items : {A F : Type 0} → List A → Result (List A) F → Result (List A) F
+after_items items reading = result_map_both (λ later. items ++ later) (λ fault. fault) reading
 
 -- what was read of the template record at this offset, or its fault
 abbrev pub with_offset : {A : Type 0} → ℕ → Result A TemplateFaultKind
