@@ -58,9 +58,9 @@ LIMITS = (
      r"nat_lt count (\d+)\) then Some TooManyMessages"),
     ("cost of a node", r"cost of at most (\d+)", "flow_files/specs/Reports.antt", r"length placed < (\d+)"),
     ("protocol", r"at most (\d+) for the protocol", "flow_filter/specs/Condition.antt",
-     r"row\.protocol\) \(number_range false (\d+)"),
+     r"row\.protocol\) false (\d+)"),
     ("port", r"and (\d[\d,]*) for a port", "flow_filter/specs/Condition.antt",
-     r"row\.sport\) \(number_range false (\d+)"),
+     r"row\.sport\) false (\d+)"),
 )
 # Numbers of four or more digits that no definition has.
 OTHER_NUMBERS = {

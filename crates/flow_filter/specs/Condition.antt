@@ -29,27 +29,30 @@ RowTest = (AddressOf → Option (List ℕ)) → RowView → Bool
 abbrev pub in_range : ℕ → Range → Bool
 in_range n r = nat_le r.low n && nat_le n r.high
 
--- the test that a number of the row is in a range, that a block covers an address of the row, and that an address of the
--- row has this label
-abbrev pub by_number : (RowView → ℕ) → Option Range → Option RowTest
-by_number number = option_map (λ range label row. in_range (number row) range)
+-- the test that an item states: a number of the row is in the item's range, the item's block covers an address of the
+-- row, or the item is the label of an address of the row
+abbrev pub by_number : (RowView → ℕ) → Bool → ℕ → List ℕ → Option RowTest
+by_number number may_be_open limit item =
+    option_map (λ range label row. in_range (number row) range)
+    (number_range may_be_open limit item)
 
-abbrev pub by_address : (RowView → ℕ) → Option BlockOf → Option RowTest
-by_address address =
+abbrev pub by_address : (RowView → ℕ) → List ℕ → Option RowTest
+by_address address item =
     option_map (λ block label row. covers_converted block (row.version, address row))
+    (address_item item)
 
 abbrev pub by_label : (RowView → ℕ) → List ℕ → RowTest
 by_label address item label row = option_eq bytes_eq (label (row.version, address row)) (Some item)
 
 -- the test that an item of an option's text states
 abbrev pub item_test : FilterOption → List ℕ → Option RowTest
-item_test Protocol item = by_number (λ row. row.protocol) (number_range false 255 item)
-item_test SourcePort item = by_number (λ row. row.sport) (number_range false 65535 item)
-item_test DestinationPort item = by_number (λ row. row.dport) (number_range false 65535 item)
-item_test SourceAddress item = by_address (λ row. row.src) (address_item item)
-item_test DestinationAddress item = by_address (λ row. row.dst) (address_item item)
-item_test Packets item = by_number (λ row. row.packets) (number_range true (2 ^ 64 - 1) item)
-item_test Bytes item = by_number (λ row. row.octets) (number_range true (2 ^ 64 - 1) item)
+item_test Protocol item = by_number (λ row. row.protocol) false 255 item
+item_test SourcePort item = by_number (λ row. row.sport) false 65535 item
+item_test DestinationPort item = by_number (λ row. row.dport) false 65535 item
+item_test SourceAddress item = by_address (λ row. row.src) item
+item_test DestinationAddress item = by_address (λ row. row.dst) item
+item_test Packets item = by_number (λ row. row.packets) true (2 ^ 64 - 1) item
+item_test Bytes item = by_number (λ row. row.octets) true (2 ^ 64 - 1) item
 item_test SourceLabel item = Some (by_label (λ row. row.src) item)
 item_test DestinationLabel item = Some (by_label (λ row. row.dst) item)
 item_test AnyLabel item =

@@ -5,7 +5,7 @@ ghost use Rattle.flow_rows.specs.Elements.{RowView};
 ghost use Rattle.flow_filter.specs.Condition.{by_address, in_range, item_test};
 ghost use Rattle.flow_filter.specs.Filters.{HasRanges, IsRefused, by_range, mapped_number};
 ghost use Rattle.flow_filter.specs.Options.{is_on_labels, kind_of};
-ghost use Rattle.flow_filter.specs.Texts.{address_item, number_range};
+ghost use Rattle.flow_filter.specs.Texts.{number_range};
 
 use crate::fault::FilterFaultKind;
 use crate::option::FilterOption;
@@ -51,7 +51,7 @@ pub fn mapped_number(addr: Addr) -> u128
 fn read_addresses(text: &[u8]) -> Option<Range>
     ensures { (address : RowView → ℕ)
         → option_map (λ range label row. in_range (mapped_number (row.version, address row)) range) result
-        ≡ by_address address (address_item text.now) }
+        ≡ by_address address text.now }
 {
     let block = if text.contains(&b'/') {
         read_block(text).ok()?
