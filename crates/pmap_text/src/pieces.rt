@@ -5,11 +5,13 @@ ghost use Rattle.pmap_text.specs.Inner.{EndsLine, AreEnded, text_in};
 use std::alloc::{AllocError, Global};
 use std::marker::Model;
 
-// A piece of this length or more ends at the last line feed of the bytes that are added, 960 KB.
-const PIECE: usize = 983_040;
+// A piece ends at the last line feed of the bytes with which it has this length or more, 64 KB.
+const PIECE: usize = 65_536;
 
-// The number of bytes for which a piece has room, 1 MB. It doesn't grow if at most 64 KB are added at a time.
-const ROOM: usize = 1_048_576;
+// The number of bytes for which a piece has room, 128 KB. It doesn't grow if at most 64 KB are added at a time. glibc's
+// `malloc` maps a block of this size, and unmaps it when it is freed. From then on it puts blocks of up to this size into
+// its heap, where they grow by copies, so a piece isn't larger.
+const ROOM: usize = 131_072;
 
 /// A text in pieces, all of which end with a line feed but for the last.
 #[derive(Drop)]
