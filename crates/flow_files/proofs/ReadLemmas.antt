@@ -132,10 +132,10 @@ are_texts input files role.Flows = may_have (view_of input files.flows)
 
 -- What follows from the text of a file that is to be read whole.
 
-only_text : {R T : Type 0} {input : R → InputView} {text_of : T → Text} {old new : Option (Source R)} {name : Bor Text} {text : T}
+only_text : {R T : Type 0} {input : R → InputView} (text_of : T → Text) {old new : Option (Source R)} {name : Bor Text} {text : T}
     → IsText input text_of old new (Ok (name, text)) → (other : Text) → MayHave (view_of input new) other
     → (other ≡ text_of text) × (name.now ≡ name_in old)
-only_text whole other may = let (found, same, (is, named)) = whole.gives.1 other may in (cc, named)
+only_text text_of whole other may = let (found, same, (is, named)) = whole.gives.1 other may in (cc, named)
 
 -- a fault of one reading is that of another with the same faults
 pub with_fault_of : {R A B V W : Type 0} {input : R → InputView} {old new : Option (Source R)} {reading : Text → Result A BytesFault} {is : A → V → Type 0}
@@ -147,7 +147,7 @@ with_fault_of (CannotRead file) fails one = record { reads = one.reads; gives = 
 with_fault_of (File file f) fails one = record { reads = one.reads; gives = (one.gives.0, one.gives.1, λ text may. fails text f (one.gives.2 text may)) }
 with_fault_of fault fails one = absurd one.gives
 
-module _ {R A V T : Type 0} {input : R → InputView} {text_of : T → Text} {old new : Option (Source R)} {reading : Text → Result A BytesFault}
+module _ {R A V T : Type 0} {input : R → InputView} (text_of : T → Text) {old new : Option (Source R)} {reading : Text → Result A BytesFault}
     {is : A → V → Type 0} where
   pub whole_stops : {fault : RunFault} {result : Result V RunFault} → IsErrAnd result (λ other. other ≡ fault) → IsText input text_of old new (Err fault)
       → IsRead input reading is (λ _. ⊤) old new result
@@ -158,7 +158,7 @@ module _ {R A V T : Type 0} {input : R → InputView} {text_of : T → Text} {ol
       → IsRead input reading is (λ _. ⊤) old new (Ok value)
   whole_is whole a reads holds = record {
     reads = whole.reads;
-    gives = (whole.gives.0, λ other may. (a, ap reading (only_text whole other may).0 ∙ reads, holds));
+    gives = (whole.gives.0, λ other may. (a, ap reading (only_text text_of whole other may).0 ∙ reads, holds));
   }
 
   pub whole_is_bad : {name : Bor Text} {text : T} {made : RunFault} → IsText input text_of old new (Ok (name, text)) → (fault : BytesFault)
@@ -169,8 +169,8 @@ module _ {R A V T : Type 0} {input : R → InputView} {text_of : T → Text} {ol
       by NoMemory memory = whole.gives.0
       by (File file other) (named, same, bytes) = (
         whole.gives.0,
-        named ∙ (only_text whole (view_of input new).returned (may_have (view_of input new))).1,
-        λ t may. ap reading (only_text whole t may).0 ∙ reads bytes ∙ ap Err (sym same),
+        named ∙ (only_text text_of whole (view_of input new).returned (may_have (view_of input new))).1,
+        λ t may. ap reading (only_text text_of whole t may).0 ∙ reads bytes ∙ ap Err (sym same),
       )
       by made wrong = absurd wrong
 

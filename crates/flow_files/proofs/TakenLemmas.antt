@@ -4,7 +4,8 @@ use Rattle.std.specs.Prelude.{IfErr, OnSome, ⊤}
 use Rattle.std.specs.Result.{IsErrAnd, result_map_both}
 use Rattle.flow_io.specs.Devices.{InputView, MayFollow, ReadsInput, has_ended}
 use Rattle.ipfix_templates.specs.InForce.{no_templates}
-use Rattle.ipfix_read.specs.Fault.{TruncatedHeader, TruncatedMessage, is_of_calls, is_of_reader, out_of_memory}
+use Rattle.ipfix_read.specs.Fault.{is_of_calls, is_of_reader, out_of_memory}
+use Rattle.ipfix_read.specs.declared.fault.ReadFaultKind.TheVariants.{TruncatedHeader, TruncatedMessage}
 use Rattle.ipfix_read.specs.Messages.{AnswersNext, IsAt, ProgressView, StopsAfter, StopsFrom, StopsReading, file_reading, messages_in, placed_messages}
 use Rattle.ipfix_read.specs.Laws.{CallsJoinFile}
 use Rattle.ipfix_read.specs.declared.progress.State.TheVariants.{Going}

@@ -1,4 +1,5 @@
-use Rattle.std.proofs.Common.{◌≡◌, ◌∙◌, None, Option, Ok, Result, Err, Some, ap, length, refl, rules, true}
+use Rattle.std.proofs.Common.{ℕ, ◌≡◌, ◌∙◌, None, Option, Ok, Result, Err, Some, ap, length, refl, rules, true}
+use Rattle.std.specs.Global.{Vec}
 use Rattle.std.specs.Prelude.{option_map}
 use Rattle.pmap_model.specs.ListModel.{ListModel}
 use Rattle.pmap_model.specs.MapModel.{MapModel}
@@ -39,28 +40,28 @@ by_fault m l (Ok c) = by (first_fault m l c)
     by (Some fault) = refl
 
 pub returns-in_err-name : goal.returns-in_err-name
-returns-in_err-name g c = λ m l of_map of_list. whole_stops c.from_residual.ensures.1 c.in_err-name.ensures
+returns-in_err-name g c = λ m l of_map of_list. whole_stops (λ (t : Vec ℕ). t.items) c.from_residual.ensures.1 c.in_err-name.ensures
 
 pub returns-in-Ok : goal.returns-in-Ok
 returns-in-Ok g c = λ m l of_map of_list.
     let count = length (list_of l).prefixes in
     let counted = c.in-Ok.ensures.count m l of_map of_list in
     let text : c.into_bytes.result.items ≡ minimal_text count = search rules in
-    whole_is c.in_ok-name.ensures (list_of l)
+    whole_is (λ (t : Vec ℕ). t.items) c.in_ok-name.ensures (list_of l)
     (by_fault (map_of m) (list_of l) (format_reading c.in_ok-name.text.items)
     ∙ ap (λ (found : Option TextFault). option_map_or (λ fault. Err (in_text fault)) found (Ok (list_of l))) (rw c.as_slice.ensures.value at c.in-Ok.ensures.fault m l of_map of_list)) text
 
 pub returns-in-Err-Check : goal.returns-in-Err-Check
 returns-in-Err-Check g c = λ m l of_map of_list.
     let fault = rw (c.in-Err-Check.field-0-is, c.as_slice.ensures.value) at c.in-Err-Check.ensures.fault m l of_map of_list in
-    whole_is_bad c.in_ok-name.ensures (InCheck c.in-Err-Check.fault) (rw c.in-Err-Check.field-0-is at c.of.ensures)
+    whole_is_bad (λ (t : Vec ℕ). t.items) c.in_ok-name.ensures (InCheck c.in-Err-Check.fault) (rw c.in-Err-Check.field-0-is at c.of.ensures)
     (λ bytes. by_fault (map_of m) (list_of l) (format_reading c.in_ok-name.text.items)
     ∙ ap (λ (found : Option TextFault). option_map_or (λ fault. Err (in_text fault)) found (Ok (list_of l))) fault)
 
 pub returns : goal.returns
 returns g c = λ m l of_map of_list.
     let fault = rw (c.in-Err-Certificate.field-0-is, c.as_slice.ensures.value) at c.in-Err-Certificate.ensures.fault m l of_map of_list in
-    whole_is_bad c.in_ok-name.ensures (InCertificate c.in-Err-Certificate.fault)
+    whole_is_bad (λ (t : Vec ℕ). t.items) c.in_ok-name.ensures (InCertificate c.in-Err-Certificate.fault)
     (rw c.in-Err-Certificate.field-0-is at c.of-in-Err-Certificate.ensures)
     (λ bytes. by_fault (map_of m) (list_of l) (format_reading c.in_ok-name.text.items)
     ∙ ap (λ (found : Option TextFault). option_map_or (λ fault. Err (in_text fault)) found (Ok (list_of l)))
