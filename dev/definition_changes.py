@@ -141,7 +141,10 @@ class Part:
         return self.word(index) == ":"
 
     def is_in_type(self, index):
-        """Whether the word is in the brackets of a type such as `List (A × B)`."""
+        """Whether the word is in the brackets of a type such as `List (A × B)`, or in the type of a name after `let`."""
+        let = next((at for at in range(index, -1, -1) if self.word(at) == "let"), None)
+        if let is not None and self.word(let + 2) == ":" and "=" not in map(self.word, range(let, index)):
+            return True
         return any(first < index < last and self.word(first - 1) in ("List", "Option")
                    for first, last in self.mates.items())
 
