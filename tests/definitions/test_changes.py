@@ -12,7 +12,7 @@ class Changes(Case):
     is_long = True
 
     def test_sample(self):
-        ended = run(ROOT / "dev/definitions", "--without-prover", "--quiet", "--sample", str(SAMPLE),
+        ended = run(ROOT / "dev/definitions", "--quiet", "--sample", str(SAMPLE),
                     env={**os.environ, "FLOWLABEL": str(PROGRAM), "JOBS": "1"})
         last = ended.stdout.decode().splitlines()[-1:] or [ended.stderr.decode()]
         self.assertRegex(last[0], r"\A[0-9]+ passed, 0 failed\Z", ended.stdout.decode()[-3000:])
