@@ -167,6 +167,11 @@ PASSED_OVER = re.compile(r"\s*(--|((pub|ghost) )*use |pub mod |infix|unfolding\b
 EXPLICIT = re.compile(r"\(([\w' ]+) :")  # the names of parameters that calls give
 
 
+def with_whole_lines(text):
+    """Returns the text of a module with each `module _ .. where` on one line."""
+    return re.sub(r"(?m)^(module [^\n]*)(?<!where)\n +", r"\1 ", text)
+
+
 class Definition:
     """A definition as it is in its file. `outer` are the parameters of the part of the module that it is in."""
 
@@ -234,8 +239,8 @@ class Module:
     def read(self):
         """Divides the text into definitions. The parameters of a line `module _ .. where` are first arguments of those
         that are further in."""
-        current, outer, text = None, [], re.sub(r"(?m)^(module [^\n]*)(?<!where)\n +", r"\1 ", self.text)
-        for line in text.split("\n"):
+        current, outer = None, []
+        for line in with_whole_lines(self.text).split("\n"):
             depth, begins = len(line) - len(line.lstrip()), BEGINS.match(line)
             if PASSED_OVER.match(line):
                 continue

@@ -33,7 +33,7 @@ from typing import NamedTuple
 
 ROOT = Path(__file__).resolve().parents[2]
 sys.path[:0] = [str(ROOT / "tests"), str(ROOT / "dev")]
-from specs import BEGINS, Module
+from specs import BEGINS, Module, with_whole_lines
 from support import Case
 
 CRATES, STORED = ROOT / "crates", Path(__file__).with_name("reviewed.txt")
@@ -201,7 +201,7 @@ def definitions():
     for file in (*HEADLINE, *DEFINITIONS):
         text, parts = read(f"{file}.antt").partition(f"\n{DIVIDER}")[0], {}
         module, opened, name, inside = Module("", None, text), "", None, 0
-        for line in text.split("\n"):
+        for line in with_whole_lines(text).split("\n"):
             begins = BEGINS.match(line)
             if not line.strip() or re.match(r"\s*(--|module |(pub )?use )", line):
                 opened = line if line.startswith("module ") else opened

@@ -52,8 +52,8 @@ fn check_root(sources: &Sources, walk: &mut Walk) -> Result<(), CertFault>
 }
 
 /// Checks the text of a certificate like [`check`], while it is read, and stores none of its nodes. `map` and `list`
-/// are what a check needs of the map and of the list. A fault of the text comes before any fault of the check. `hashing`
-/// is for the labels, and doesn't affect the result.
+/// are what a check needs of the map and of the list. A fault of the text comes before any fault of the check.
+/// `hashing` is for the labels, and doesn't affect the result.
 pub fn check_text(
     alloc: Global,
     map: &Swept,

@@ -39,8 +39,8 @@ row_columns labels row =
     ∷ (codes "stime", decimal row.start_ms) ∷ (codes "etime", decimal row.end_ms)
     ∷ (if is_some labels then column SourceLabel ∷ column DestinationLabel ∷ [] else [])
 
--- The table of groups, each given as its first row and the others. The line of a group has the texts of the fields of the
--- first row, the number of its rows, and the sums of their packets and bytes.
+-- The table of groups, each given as its first row and the others. The line of a group has the texts of the fields of
+-- the first row, the number of its rows, and the sums of their packets and bytes.
 abbrev pub groups_table : List KeyField → Bool → Option Labelling → List (RowView × List RowView)
     → Text
 groups_table fields columns labels groups =

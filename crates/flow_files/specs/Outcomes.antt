@@ -12,8 +12,8 @@ use Rattle.flow_files.specs.Sources.{Text}
 use Rattle.flow_files.specs.declared.label_file.LabelFile.{LabelFile}
 use Rattle.flow_files.specs.declared.label_file.LabelFile.TheVariants.{Map, List as Prefixes}
 
--- What the texts of a command's files are read as, and the outcome of the command: the text that it prints, or the first fault
--- of these texts.
+-- What the texts of a command's files are read as, and the outcome of the command: the text that it prints, or the
+-- first fault of these texts.
 
 -- a reading, with its faults as those of a file
 abbrev pub with_bytes_fault : {F A : Type 0} → (F → BytesFault) → Result A F → Result A BytesFault

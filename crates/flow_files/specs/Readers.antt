@@ -56,10 +56,10 @@ module _ {R : Type 0} (input : R → InputView) where
   abbrev pub AreTexts : Readers R → ByFile Text → Type 0
   AreTexts files texts = (role : Role) → MayHave (view_of (at role files)) (at role texts)
 
-  -- A fault of a command, by the outcomes that it may have over the texts of the files. A fault of a file's bytes is the
-  -- outcome over all texts that the files may have. It is a fault of a reader exactly if one failed. Then no earlier file
-  -- has a fault, and of a File the reader returned whole messages without a fault and the beginning of one that isn't
-  -- complete. Both have the name of the file.
+  -- A fault of a command, by the outcomes that it may have over the texts of the files. A fault of a file's bytes is
+  -- the outcome over all texts that the files may have. It is a fault of a reader exactly if one failed. Then no
+  -- earlier file has a fault, and of a File the reader returned whole messages without a fault and the beginning of one
+  -- that isn't complete. Both have the name of the file.
   abbrev pub IsFaultOf : (ByFile Text → Outcome → Type 0) → Readers R → Readers R → RunFault
       → Type 0
   IsFaultOf Is old new NoMemory = any_failed new ≡ false
@@ -84,4 +84,5 @@ IsFaultFor name fault run = ⊥
 
 -- reads have returned more of the files
 abbrev pub AreReadOn : {R : Type 0} → (R → InputView) → Readers R → Readers R → Type 0
-AreReadOn input old new = (role : Role) → ReadsInput (view_of input (at role old)) (view_of input (at role new)) (λ _. ⊤)
+AreReadOn input old new =
+    (role : Role) → ReadsInput (view_of input (at role old)) (view_of input (at role new)) (λ _. ⊤)

@@ -116,7 +116,8 @@ module _ {R : Type 0} (input : R → InputView) where
   -- the value that the text is read as
   abbrev pub Decodes : {F A V : Type 0} → (F → BytesFault) → (Text → Result A F) → (V → A) → Option (Source R)
       → Option (Source R) → Result V RunFault → Type 0
-  Decodes wrap reading model = IsRead (λ text. with_bytes_fault wrap (reading text)) (λ a value. a ≡ model value) (λ _. ⊤)
+  Decodes wrap reading model =
+      IsRead (λ text. with_bytes_fault wrap (reading text)) (λ a value. a ≡ model value) (λ _. ⊤)
 
   -- what is built from the messages of a File, each with its offset
   abbrev pub ReadsInto : {T : Type 0} → (List (ℕ × MessageView) → T → Type 0) → Option (Source R) → Option (Source R)
@@ -124,7 +125,8 @@ module _ {R : Type 0} (input : R → InputView) where
   ReadsInto is_of = IsRead (λ text. with_bytes_fault InFlows (placed_messages text)) is_of
       StopsReading
 
-  -- The input has returned these messages with their offsets, whose number the state has, and there may be more. Nothing was read before.
+  -- The input has returned these messages with their offsets, whose number the state has, and there may be more.
+  -- Nothing was read before.
   pub record AreReadSoFar (start : Option (Source R)) (placed : List (ℕ × MessageView)) (p : ProgressView)
       (now : Option (Source R)) : Type 0 where
     pub read : IsReadTo no_templates 0 0 (view_of input start) placed p (view_of input now)
@@ -134,8 +136,8 @@ module _ {R : Type 0} (input : R → InputView) where
     pub first : (view_of input start).returned ≡ []
 
   -- the result of a call for the message after these, at this offset, and the state after the call
-  abbrev pub ReadsNext : Option (Source R) → List (ℕ × MessageView) → ℕ → Result (Option MessageView) RunFault → ProgressView
-      → Option (Source R) → Type 0
+  abbrev pub ReadsNext : Option (Source R) → List (ℕ × MessageView) → ℕ
+      → Result (Option MessageView) RunFault → ProgressView → Option (Source R) → Type 0
   ReadsNext start placed at (Ok (Some m)) p now =
       AreReadSoFar start (placed ++ (at, m) ∷ []) p now × (length placed < 4294967295)
   ReadsNext start placed at (Ok None) p now = ReadsInto (λ read all. read ≡ all) start now (Ok placed)

@@ -57,8 +57,8 @@ impl BytesFault {
         }
     }
 
-    /// Returns the code and the name of the fault, as its line shows them, and its position: a line of a text, an offset
-    /// in bytes into a File, or a node of a certificate.
+    /// Returns the code and the name of the fault, as its line shows them, and its position: a line of a text, an
+    /// offset in bytes into a File, or a node of a certificate.
     pub fn name_and_position(&self) -> (&'static str, u64)
         ensures name { result.0.now ≡ (name_and_position self.now).0 }
         ensures position { result.1 ≡ (name_and_position self.now).1 }

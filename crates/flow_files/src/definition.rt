@@ -96,7 +96,8 @@ fn with_arguments<'a>(
     mut command: Command<'a>,
     arguments: &[Argument<'a>],
 ) -> Result<Command<'a>, AllocError>
-    ensures { (app : App) → IsCommand app command.entry → IfOk result (IsCommand (fold with_argument app arguments.now)) }
+    ensures { (app : App) → IsCommand app command.entry
+        → IfOk result (IsCommand (fold with_argument app arguments.now)) }
 {
     for argument in arguments {
         command = command.arg(argument_of(alloc, argument))?;

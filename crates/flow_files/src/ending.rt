@@ -22,7 +22,8 @@ pub fn end<O: Output, E: Output>(
     output: &mut O,
     error: &mut E,
 ) -> u8
-    requires output { (text : String Global) → outcome.now ≡ Err (Usage (usage.Help text)) → (O.output output.old).failed ≡ false }
+    requires output { (text : String Global) → outcome.now ≡ Err (Usage (usage.Help text))
+        → (O.output output.old).failed ≡ false }
     requires error { (E.output error.old).failed ≡ false }
     ensures status { result ≡ exit_status_of outcome.now }
     ensures reported { IsReported O.output E.output program.now outcome.now output.old output.new error.old error.new }

@@ -50,7 +50,8 @@ pub fn add_rows<T: TakesRows>(
         × (length rows + 131070 < 2 ^ 64) }
     ensures few { length (rows_of_sets message.now.sets) ≤ 131070 }
     ensures rows { OnOk result ((first : T) (rows : List RowView)
-        → T.has_rows first (labelling_found labels.entry) (passing filter.now (labelling_found labels.entry) rows) taker.old
+        → T.has_rows first (labelling_found labels.entry)
+        (passing filter.now (labelling_found labels.entry) rows) taker.old
         → T.has_rows first (labelling_found labels.entry)
         (passing filter.now (labelling_found labels.entry) (rows ++ rows_of_sets message.now.sets)) taker.new) }
 {

@@ -88,7 +88,8 @@ pub fn index_of(
     alloc: Global,
     labels: &Option<LabelsRead>,
 ) -> Result<Option<StretchIndex<'_>>, AllocError>
-    ensures { IfOk result (λ index. option_map labelling_of_stretches index ≡ option_map labelling_read labels.entry.now) }
+    ensures { IfOk result (λ index.
+        option_map labelling_of_stretches index ≡ option_map labelling_read labels.entry.now) }
 {
     match labels {
         Some(labels) => Ok(Some(labels.index(alloc)?)),

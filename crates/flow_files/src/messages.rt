@@ -67,7 +67,8 @@ pub fn add_messages<'a, R: Input, T: TakesMessages>(
 ) -> Result<(), RunFault<'a>>
     requires fresh { IsFresh R.input flows.old }
     requires none { T.has_messages taker.old [] taker.old }
-    ensures reads { ReadsInto R.input (λ placed _. T.has_messages taker.old placed taker.new) flows.old flows.new result }
+    ensures reads { ReadsInto R.input (λ placed _. T.has_messages taker.old placed taker.new)
+        flows.old flows.new result }
     ensures there { is_some flows.new ≡ is_some flows.old }
 {
     let mut progress = Progress::new(alloc);

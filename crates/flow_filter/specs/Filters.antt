@@ -26,7 +26,9 @@ pub record IsBeingRead (condition : Condition) (o : FilterOption) : Type 0 where
 
 -- an allocation failed while an option was read, or the fault is the first one of the texts
 abbrev pub IsFault : List (Option (List ℕ)) → FilterFault → Type 0
-IsFault texts fault = ((fault.kind ≡ NoMemory) × IsBeingRead (given texts ALL_OPTIONS) fault.option) ⊎ (filter_of texts ≡ Err fault)
+IsFault texts fault =
+    ((fault.kind ≡ NoMemory) × IsBeingRead (given texts ALL_OPTIONS) fault.option)
+    ⊎ (filter_of texts ≡ Err fault)
 
 -- the kind of the fault of a part
 abbrev pub IsRefused : Part → FilterFaultKind → Type 0

@@ -13,8 +13,8 @@ range_between (Some low) (Some high) =
     if nat_le low high then Some (record { low = low; high = high }) else None
 range_between _ _ = None
 
--- the numbers of a text `N` or `N-M`, or `N-` if the range may be open: all from N to the limit; without a `-` the upper
--- end is the lower end; a number has up to 20 digits
+-- the numbers of a text `N` or `N-M`, or `N-` if the range may be open: all from N to the limit; without a `-` the
+-- upper end is the lower end; a number has up to 20 digits
 abbrev pub number_range : Bool → ℕ → List ℕ → Option Range
 number_range may_be_open limit text =
     let low = decimal_number 20 limit (before_first (λ b. b == 45) text) in

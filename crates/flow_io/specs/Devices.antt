@@ -41,8 +41,8 @@ WritesWhole old new bytes =
     Takes old new bytes × (new.last_call ≡ Flush) × (new.flushes ≡ suc old.flushes)
     × (new.failed ≡ false)
 
--- the writer was to take these bytes and then be flushed, and failed: at a write, with a prefix of them taken, or at the
--- flush, with all of them taken
+-- the writer was to take these bytes and then be flushed, and failed: at a write, with a prefix of them taken, or at
+-- the flush, with all of them taken
 abbrev pub StopsWriting : OutputView → OutputView → List ℕ → Type 0
 StopsWriting old new bytes =
     (((front rest : List ℕ) × (bytes ≡ front ++ rest) × Takes old new front

@@ -2,13 +2,14 @@ use Rattle.std.specs.Prelude.{◌≡◌, ◌++◌, ⊤, ℕ, List, Result, Ok, E
 use base.Fml.{GName}
 use Rattle.flow_io.specs.Devices.{OutputView, Takes, Write}
 
--- what contracts see of a sink: the text that was printed so far, and the reference to the writer below, if there is one
+-- what contracts see of a sink: the text that was printed so far, and the reference to the writer below, if there is
+-- one
 pub record SinkView : Type 0 where
   pub printed : List ℕ
   pub reference : GName
 
--- A sink has this text added to what was printed, and its writer began as before. The functions give the view of a sink,
--- and say what its writer was at first.
+-- A sink has this text added to what was printed, and its writer began as before. The functions give the view of a
+-- sink, and say what its writer was at first.
 abbrev pub Adds : {S : Type 0} → (S → SinkView) → (OutputView → S → Type 0) → S → S → List ℕ → Type 0
 Adds sink began old new text =
     ((sink new).printed ≡ (sink old).printed ++ text) × ((sink new).reference ≡ (sink old).reference)
@@ -20,7 +21,8 @@ Pushes sink began old new text (Ok _) = Adds sink began old new text
 Pushes sink began old new text (Err _) = ⊤
 
 -- the same for one of the texts that a value may have
-abbrev pub PrintsText : {S A E : Type 0} → (S → SinkView) → (OutputView → S → Type 0) → S → S → (List ℕ → Type 0) → Result A E → Type 0
+abbrev pub PrintsText : {S A E : Type 0} → (S → SinkView) → (OutputView → S → Type 0) → S → S
+    → (List ℕ → Type 0) → Result A E → Type 0
 PrintsText sink began old new Is (Ok _) = (text : List ℕ) × Is text × Adds sink began old new text
 PrintsText sink began old new Is (Err _) = ⊤
 

@@ -3,8 +3,8 @@ use Rattle.flow_io.specs.Devices.{InputView, OutputView}
 use Rattle.flow_io.specs.declared.devices.Input.{Ghosts}
 use Rattle.flow_io.specs.declared.watch.Watched.{Watched}
 
--- What contracts see of a reader and of a writer that are watched: what was noted, and the bytes that the inner reader or
--- writer reports.
+-- What contracts see of a reader and of a writer that are watched: what was noted, and the bytes that the inner reader
+-- or writer reports.
 
 abbrev pub input_watched : {T : Type 0} → (T → Option (List ℕ)) → Watched T → InputView
 input_watched left reader = record {

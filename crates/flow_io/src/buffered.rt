@@ -49,7 +49,8 @@ impl<'w, W: Output> Buffered<'w, W> {
         requires room { self.old.len + length bytes.now ≤ ROOM }
         ensures writer { self.new.writer ≡ self.old.writer }
         ensures given { self.new.given ≡ self.old.given }
-        ensures held { take self.new.len self.new.buffer.now ≡ take self.old.len self.old.buffer.now ++ take count bytes.now }
+        ensures held { take self.new.len self.new.buffer.now
+            ≡ take self.old.len self.old.buffer.now ++ take count bytes.now }
     {
         let len = self.len;
         self.buffer[len..len + bytes.len()].copy_from_slice(bytes);
@@ -81,7 +82,8 @@ impl<'w, W: Output> Buffered<'w, W> {
     // Prints a value, which can't fail here.
     fn print<P: Printable>(&mut self, value: &P)
         requires { P.is_whole value.now }
-        ensures printed { (text : List ℕ) × P.is_text value.now text × ((sink_of self.new).printed ≡ (sink_of self.old).printed ++ text) }
+        ensures printed { (text : List ℕ) × P.is_text value.now text
+            × ((sink_of self.new).printed ≡ (sink_of self.old).printed ++ text) }
         ensures same_reference { self.new.writer.ghost_name ≡ self.old.writer.ghost_name }
         ensures began { (first : OutputView) → HasBegun first self.old → HasBegun first self.new }
     {

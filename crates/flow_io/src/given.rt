@@ -30,7 +30,8 @@ impl Given {
 pub(crate) fn give<W: Output>(writer: &mut W, given: &mut Given, bytes: &[u8])
     requires { (W.output writer.old).failed ≡ false → given.old.lost.bytes ≡ [] }
     ensures works { (W.output writer.new).failed ≡ false → given.new.lost.bytes ≡ [] }
-    ensures given { given.new.taken.bytes ++ given.new.lost.bytes ≡ (given.old.taken.bytes ++ given.old.lost.bytes) ++ bytes.now }
+    ensures given { given.new.taken.bytes ++ given.new.lost.bytes
+        ≡ (given.old.taken.bytes ++ given.old.lost.bytes) ++ bytes.now }
     ensures began { (first : OutputView) → HasTaken first (W.output writer.old) given.old.taken.bytes
         → HasTaken first (W.output writer.new) given.new.taken.bytes }
 {

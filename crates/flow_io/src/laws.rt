@@ -6,9 +6,9 @@ ghost use Rattle.flow_io.specs.Watched.{input_watched, output_watched, watched};
 ghost use Rattle.flow_io.specs.declared.read_ahead.ReadAhead.{ReadAhead};
 ghost use Rattle.flow_io.specs.declared.watch.Watched.{Watched};
 
-/// A file is a `Watched` reader that a `ReadAhead` asks for its bytes. The bytes that the system returned are always those
-/// that the `ReadAhead` returned, followed by those ahead. Contracts see what both note, and the end is found only when no
-/// byte is ahead. The inner reader is of any type, here a list. `left` gives the bytes that it reports.
+/// A file is a `Watched` reader that a `ReadAhead` asks for its bytes. The bytes that the system returned are always
+/// those that the `ReadAhead` returned, followed by those ahead. Contracts see what both note, and the end is found
+/// only when no byte is ahead. The inner reader is of any type, here a list. `left` gives the bytes that it reports.
 pub fn readers_show_what_they_note()
     ensures fetched { (left : List ℕ → Option (List ℕ)) (reader : ReadAhead (Watched (List ℕ)) (watched left)) →
         reader.inner.read.bytes ≡ reader.returned.bytes ++ bytes_ahead reader }
@@ -27,8 +27,9 @@ pub fn readers_show_what_they_note()
         has_ended (input_watched left reader) ≡ true → reader.ended ≡ true }
 {}
 
-/// Contracts see of a watched writer the bytes that its writes have noted as taken, whether it failed, its last call, how
-/// many flushes it noted, and what the inner writer, here a list, reports. `contents` gives the bytes that it reports.
+/// Contracts see of a watched writer the bytes that its writes have noted as taken, whether it failed, its last call,
+/// how many flushes it noted, and what the inner writer, here a list, reports. `contents` gives the bytes that it
+/// reports.
 pub fn writers_show_what_they_note()
     ensures taken { (contents : List ℕ → Option (List ℕ)) (writer : Watched (List ℕ)) →
         (output_watched contents writer).taken ≡ writer.taken.bytes }

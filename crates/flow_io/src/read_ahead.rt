@@ -8,8 +8,8 @@ use std::alloc::{AllocError, Global};
 // The number of bytes that the inner reader is asked for at a time.
 const CAPACITY: usize = 65_536;
 
-/// A reader that asks an inner one for 64 KB at a time, and returns its bytes in order. The bytes ahead, which it has not
-/// returned yet, are those of `buffer` from `start` to `end`.
+/// A reader that asks an inner one for 64 KB at a time, and returns its bytes in order. The bytes ahead, which it has
+/// not returned yet, are those of `buffer` from `start` to `end`.
 #[derive(Drop)]
 pub struct ReadAhead<R: Input> {
     inner: R,
@@ -35,7 +35,8 @@ impl<R: Input> ReadAhead<R> {
         R: Drop,
         requires { (R.input inner).returned ≡ [] }
         ensures inner { IfOk result (λ reader. reader.inner ≡ inner) }
-        ensures fresh { IfOk result (λ reader. (reader.ended ≡ false) × (reader.returned.bytes ≡ []) × (reader.start ≡ reader.end)) }
+        ensures fresh { IfOk result (λ reader.
+            (reader.ended ≡ false) × (reader.returned.bytes ≡ []) × (reader.start ≡ reader.end)) }
     {
         Ok(ReadAhead {
             buffer: vec![in alloc; 0u8; CAPACITY]?,
@@ -47,7 +48,8 @@ impl<R: Input> ReadAhead<R> {
         })
     }
 
-    // Moves the first bytes ahead to the start of the buffer, as many as there are and as fit, and returns their number.
+    // Moves the first bytes ahead to the start of the buffer, as many as there are and as fit, and returns their
+    // number.
     #[tactic(auto, using(crate::proofs::Moving::moved_ahead))]
     fn take(&mut self, buffer: &mut [u8]) -> usize
         ensures count { result ≡ min (length buffer.new) (self.old.end - self.old.start) }

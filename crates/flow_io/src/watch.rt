@@ -10,8 +10,8 @@ use std::io::{Read, Write};
 /// it as a writer was the last one. Each call is passed on unchanged. Any error, including an interrupted call, is a
 /// `DeviceFault`.
 ///
-/// For contracts it also remembers the bytes that its reads have returned and its writes have taken, and a byte for each
-/// flush. If the inner reader or writer reports its bytes, they are the ones that it reports.
+/// For contracts it also remembers the bytes that its reads have returned and its writes have taken, and a byte for
+/// each flush. If the inner reader or writer reports its bytes, they are the ones that it reports.
 #[derive(Drop)]
 pub struct Watched<T> {
     inner: T,

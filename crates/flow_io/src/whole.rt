@@ -87,8 +87,8 @@ pub fn fill<R: Input>(reader: &mut R, bytes: &mut [u8]) -> Result<usize, DeviceF
     Ok(filled)
 }
 
-/// Writes all the bytes, and then flushes the writer once. If a write fails, the writer has taken a prefix of them. If the
-/// flush fails, the writer has taken all of them.
+/// Writes all the bytes, and then flushes the writer once. If a write fails, the writer has taken a prefix of them. If
+/// the flush fails, the writer has taken all of them.
 pub fn write_whole<W: Output>(writer: &mut W, bytes: &[u8]) -> Result<(), DeviceFault>
     requires { (W.output writer.old).failed ≡ false }
     ensures { Ends (W.output writer.old) (W.output writer.new) bytes.now result }

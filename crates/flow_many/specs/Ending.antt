@@ -32,7 +32,8 @@ module _ {R W : Type 0} (answers : Text → Option R → Type 0) (input : R → 
 
 -- The program for these words, or an error of getting them: a command's outcome, the text that is written for it, and
 -- the exit status. Between the two the output is in this state.
-module _ {R O E : Type 0} (answers : Text → Option R → Type 0) (input : R → InputView) (output : O → OutputView) (error : E → OutputView) where
+module _ {R O E : Type 0} (answers : Text → Option R → Type 0) (input : R → InputView)
+    (output : O → OutputView) (error : E → OutputView) where
   pub record IsProgram (words : Result (List Text) IoErrorKind) (out out' : O) (err err' : E)
       (code : ℕ) : Type 0 where
     pub outcome : Result (Unit {0}) RunFault

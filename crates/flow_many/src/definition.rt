@@ -12,7 +12,10 @@ use std::alloc::{AllocError, Global};
 // The text of an example: what it prints, and its words.
 macro_rules! example {
     ($what:literal, $words:literal) => {
-        concat!("Example, ", $what, ":\n  flowlabel-many ", $words, "\n\nManuals: flowlabel-many(1), flowlabel-formats(5)")
+        concat!(
+            "Example, ", $what, ":\n  flowlabel-many ", $words,
+            "\n\nManuals: flowlabel-many(1), flowlabel-formats(5)"
+        )
     };
 }
 

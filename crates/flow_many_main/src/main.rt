@@ -1,5 +1,5 @@
-//! `flowlabel-many`: sums the flows of many IPFIX Files, and lists their messages. All of it is in the library `flow_many`,
-//! which gets the system's files and streams here.
+//! `flowlabel-many`: sums the flows of many IPFIX Files, and lists their messages. All of it is in the library
+//! `flow_many`, which gets the system's files and streams here.
 #![tactic(auto)]
 
 use flow_io::Watched;

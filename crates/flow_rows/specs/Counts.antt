@@ -107,4 +107,5 @@ message_count_list c =
 -- the sum of all counts
 abbrev pub total : Counts → ℕ
 total c =
-    c.templates + c.options_templates + c.withdrawals + c.data_sets + c.skipped_sets + c.records + c.options_records + c.rows
+    c.templates + c.options_templates + c.withdrawals + c.data_sets + c.skipped_sets + c.records
+    + c.options_records + c.rows

@@ -24,7 +24,8 @@ after_values (run ∷ runs) bytes =
 -- the bytes at a place in a record, given the runs of bytes before its values of variable length
 abbrev pub bytes_there : Place → List ℕ → List ℕ → Option (List ℕ)
 bytes_there p runs bytes =
-    option_and_then (λ rest. option_and_then (λ f. option_map (λ v. v.0) (bytes_at p.length f.1)) (bytes_at p.offset rest))
+    option_and_then (λ rest.
+    option_and_then (λ f. option_map (λ v. v.0) (bytes_at p.length f.1)) (bytes_at p.offset rest))
     (after_values (take p.skips runs) bytes)
 
 -- the number of bytes in network byte order
@@ -54,7 +55,8 @@ row_at places number = record {
   end_ms = number places.end_ms;
 }
 
--- the number has at most this many bytes, and is in a record of this size unless values of variable length are before it
+-- the number has at most this many bytes, and is in a record of this size unless values of variable length are before
+-- it
 pub record IsWithin (most size : ℕ) (p : Place) : Type 0 where
   pub short : p.length ≤ most
   pub within : p.skips ≡ 0 → p.offset + p.length ≤ size
@@ -77,7 +79,8 @@ pub record AreUsable (size : ℕ) (places : Places) : Type 0 where
 -- the second row of the bytes of a record with this layout, if packets are counted in that direction
 abbrev pub second_at : RowLayout → List ℕ → List ℕ → Option RowView
 second_at layout runs bytes =
-    let row = row_at layout.second (λ place. number_there place runs bytes) in if row.packets == 0 then None else Some row
+    let row = row_at layout.second (λ place. number_there place runs bytes) in
+    if row.packets == 0 then None else Some row
 
 -- these records all have the same kind and the same fields, which have this layout
 pub record HaveLayout (layout : RowLayout) (runs : List ℕ) (records : List Record) : Type 0 where

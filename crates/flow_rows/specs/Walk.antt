@@ -16,4 +16,5 @@ pub record HaveRows (set : SetRows) (last : Option (Bor (List ℕ))) : Type 0 wh
 -- the second row of the last record, if its bytes are kept, and then the rows of the records left
 abbrev pub rows_to_come : SetRows → Option (Bor (List ℕ)) → List RowView
 rows_to_come set last =
-    option_to_list (option_and_then (λ bytes. second_at set.layout.now set.runs.now bytes.now) last) ++ flat_map rows_of_record set.records
+    option_to_list (option_and_then (λ bytes. second_at set.layout.now set.runs.now bytes.now) last)
+    ++ flat_map rows_of_record set.records

@@ -14,16 +14,16 @@ pub fn counts_add_up()
         rows_of_messages (front ++ back) ≡ rows_of_messages front ++ rows_of_messages back }
 {}
 
-/// The counts of each message, as [`MessageCounts`](crate::MessageCounts) has them, add up to the counts of all messages:
-/// the definitions to those of both kinds of templates, and the rows without bytes to those among all rows.
+/// The counts of each message, as [`MessageCounts`](crate::MessageCounts) has them, add up to the counts of all
+/// messages: the definitions to those of both kinds of templates, and the rows without bytes to those among all rows.
 pub fn message_counts_add_up()
     ensures { (messages : List MessageView) → summed_message_counts messages
         ≡ sums_of_lines (counts_of messages) (count_by has_no_bytes (rows_of_messages messages)) }
 {}
 
 /// If Files are joined, and no data set of the later ones lacks a template when they are read alone, then the rows are
-/// those of each File, in order, and the counts are the sums of those of each File. A File without skipped sets may be a
-/// later one.
+/// those of each File, in order, and the counts are the sums of those of each File. A File without skipped sets may be
+/// a later one.
 pub fn joined_file_adds_up()
     ensures joined { JoinedFileAddsUp }
     ensures alone { NoneSkipped }

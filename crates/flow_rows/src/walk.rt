@@ -48,7 +48,8 @@ impl<'m> SetRows<'m> {
         requires { HaveRows self.old last.old }
         ensures have { HaveRows self.new last.new }
         ensures last { IfNone result (last.new ≡ None) }
-        ensures rows { YieldsFirst (λ rows. rows) (rows_to_come self.old last.old) result (rows_to_come self.new last.new) }
+        ensures rows { YieldsFirst (λ rows. rows)
+            (rows_to_come self.old last.old) result (rows_to_come self.new last.new) }
     {
         if let Some(row) = second_row(self.layout, self.runs, last.take()) {
             return Some(row);

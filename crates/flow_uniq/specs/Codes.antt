@@ -21,8 +21,8 @@ part_model (part.Number number) = NumberPart number
 part_model (part.Label label) = LabelPart (option_copied label)
 part_model (part.Time number precision) = TimePart precision number
 
--- A part as bytes, which begin with its kind. Numbers have their highest byte first. A label, which is empty if there is
--- none, is followed by a 0, since no label contains one. A time has one more than its number, or 0 if there is none.
+-- A part as bytes, which begin with its kind. Numbers have their highest byte first. A label, which is empty if there
+-- is none, is followed by a 0, since no label contains one. A time has one more than its number, or 0 if there is none.
 abbrev pub part_code : KeyPartModel → List ℕ
 part_code (AddressPart (V4, value)) = 0 ∷ to_be_bytes w32 value
 part_code (AddressPart (V6, value)) = 1 ∷ to_be_bytes w64 (value / 2 ^ 64) ++ to_be_bytes w64 (value % 2 ^ 64)
@@ -55,7 +55,8 @@ front_bytes count code = if nat_lt (length code) count then None else Some (take
 -- the label before the first 0, and the bytes after that 0
 abbrev pub front_label : List ℕ → Option (Option (List ℕ) × List ℕ)
 front_label code =
-    option_map (λ count. (if count == 0 then None else Some (take count code), drop (count + 1) code)) (position (λ b. b == 0) code)
+    option_map (λ count. (if count == 0 then None else Some (take count code), drop (count + 1) code))
+    (position (λ b. b == 0) code)
 
 -- how exact a time with this byte is
 abbrev pub precision_at : ℕ → Precision
@@ -76,7 +77,9 @@ abbrev pub first_part : List ℕ → Option (KeyPartModel × List ℕ)
 first_part [] = None
 first_part (kind ∷ code) =
     if kind == 0 then option_map (λ c. (AddressPart (V4, from_be_bytes w32 c.0), c.1)) (front_bytes 4 code)
-    else if kind == 1 then option_and_then (λ high. option_map (λ low. (AddressPart (V6, from_be_bytes w64 high.0 * 2 ^ 64 + from_be_bytes w64 low.0), low.1)) (front_bytes 8 high.1)) (front_bytes 8 code)
+    else if kind == 1 then option_and_then (λ high. option_map (λ low.
+    (AddressPart (V6, from_be_bytes w64 high.0 * 2 ^ 64 + from_be_bytes w64 low.0), low.1))
+    (front_bytes 8 high.1)) (front_bytes 8 code)
     else if kind == 2 then option_map (λ c. (NumberPart (from_be_bytes w16 c.0), c.1)) (front_bytes 2 code)
     else if kind == 4 then front_time code
     else option_map (λ c. (LabelPart c.0, c.1)) (front_label code)

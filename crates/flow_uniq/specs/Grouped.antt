@@ -27,8 +27,9 @@ grouped same (x ∷ xs) =
 
 -- The function gives the label of each address, if it has one.
 module _ (label : AddressOf → Option Label) where
-  -- What a row has in a field, as numbers: the width and the number of an address, a number, the number of the day, hour
-  -- or minute at which a unit of time begins, or the bytes of a label after a 0. No label and no time are no numbers.
+  -- What a row has in a field, as numbers: the width and the number of an address, a number, the number of the day,
+  -- hour or minute at which a unit of time begins, or the bytes of a label after a 0. No label and no time are no
+  -- numbers.
   abbrev pub in_field : RowView → KeyField → List ℕ
   in_field r SourceAddress = width_of r.version ∷ r.src ∷ []
   in_field r DestinationAddress = width_of r.version ∷ r.dst ∷ []
@@ -45,15 +46,16 @@ module _ (label : AddressOf → Option Label) where
   compare_by fields r s =
       slice_cmp (slice_cmp nat_cmp) (map (in_field r) fields) (map (in_field s) fields)
 
-  -- The groups of rows in the order of output, each as its first row and the others. The rows of a group have the same in
-  -- each field. The groups are in the order of their first rows, or sorted by what these have.
+  -- The groups of rows in the order of output, each as its first row and the others. The rows of a group have the same
+  -- in each field. The groups are in the order of their first rows, or sorted by what these have.
   abbrev pub row_groups : List KeyField → Bool → List RowView → List (RowView × List RowView)
   row_groups fields sorted rows =
       let groups = grouped (λ r s. is_eq (compare_by fields r s)) rows in
       if sorted then in_order (λ g h. is_lt (compare_by fields g.0 h.0)) groups else groups
 
-  -- Each row is in one group. Two rows are in the same group if and only if they have the same in each field. If the groups
-  -- are sorted, a row of an earlier group is before a row of a later one: in the first field that differs, it has less.
+  -- Each row is in one group. Two rows are in the same group if and only if they have the same in each field. If the
+  -- groups are sorted, a row of an earlier group is before a row of a later one: in the first field that differs, it
+  -- has less.
   pub record AreGrouped (fields : List KeyField) (sorted : Bool)
       (rows : List RowView) (groups : List (List RowView)) : Type 0 where
     pub once : IsPermutation rows (flat_map (λ g. g) groups)

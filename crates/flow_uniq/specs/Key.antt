@@ -91,7 +91,8 @@ with_unit unit fields = fold with_field (Some (Start unit ∷ [])) fields
 
 -- The key of a row.
 
--- a part of a key: an address, a number, the text of a label or none, or the number of a day, an hour or a minute or none
+-- a part of a key: an address, a number, the text of a label or none, or the number of a day, an hour or a minute or
+-- none
 pub data KeyPartModel : Type 0 where
   AddressPart : (address : AddressOf) → KeyPartModel
   NumberPart : (number : ℕ) → KeyPartModel
@@ -118,9 +119,9 @@ module _ (label : AddressOf → Option Label) where
   abbrev pub key_of : List KeyField → RowView → Key
   key_of fields row = map (key_part row) fields
 
--- the numbers by which parts are distinguished and ordered: the number of the kind, followed by the width and the
--- value of an address, by the number itself, by a zero and the bytes of a label, or by how exact a time is and its number;
--- a missing label or time has no numbers
+-- the numbers by which parts are distinguished and ordered: the number of the kind, followed by the width and the value
+-- of an address, by the number itself, by a zero and the bytes of a label, or by how exact a time is and its number; a
+-- missing label or time has no numbers
 abbrev pub part_numbers : KeyPartModel → List ℕ
 part_numbers (AddressPart address) = 0 ∷ width_of address.0 ∷ address.1 ∷ []
 part_numbers (NumberPart number) = 1 ∷ number ∷ []

@@ -18,8 +18,8 @@ pub record SumsItsRows (key : RowView → Key) (rows : List RowView) (g : GroupM
   pub packets : g.totals.packets ≡ sum_by (λ row. row.packets) own
   pub octets : g.totals.octets ≡ sum_by (λ row. row.octets) own
 
--- The keys of the groups are distinct, and each group sums the rows that have its key. The records, packets and bytes of
--- all groups are those of all rows.
+-- The keys of the groups are distinct, and each group sums the rows that have its key. The records, packets and bytes
+-- of all groups are those of all rows.
 pub record DivideRows (key : RowView → Key) (rows : List RowView)
     (groups : List GroupModel) : Type 0 where
   pub keys : IsDistinct same_key (map (λ g. g.key) groups)

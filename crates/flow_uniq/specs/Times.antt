@@ -16,8 +16,8 @@ milliseconds_of Day = 86_400_000
 milliseconds_of Hour = 3_600_000
 milliseconds_of Minute = 60_000
 
--- The number of the UTC day, hour or minute at which the unit begins that a time is in. The first of 1970 has the number 0.
--- The time is in milliseconds since then; 0 is no time.
+-- The number of the UTC day, hour or minute at which the unit begins that a time is in. The first of 1970 has the
+-- number 0. The time is in milliseconds since then; 0 is no time.
 abbrev pub unit_start : TimeUnit → ℕ → Option ℕ
 unit_start unit time =
     if time == 0 then None

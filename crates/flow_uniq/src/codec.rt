@@ -321,7 +321,8 @@ impl<'a> Key<'a> {
 /// same way.
 pub fn compare_keys(a: Key<'_>, b: Key<'_>) -> Ordering
     ensures { result
-        ≡ slice_cmp (λ p q. slice_cmp nat_cmp (part_numbers p) (part_numbers q)) (key_in a.entry.code.now) (key_in b.entry.code.now) }
+        ≡ slice_cmp (λ p q. slice_cmp nat_cmp (part_numbers p) (part_numbers q))
+        (key_in a.entry.code.now) (key_in b.entry.code.now) }
 {
     a.code.cmp(b.code)
 }

@@ -30,11 +30,11 @@ pub fn merged_groups_divide_the_rows()
     ensures all { MergedAreAll }
 {}
 
-/// `row_groups` divides the rows by what they have in the fields. The groups by keys are the same groups: each has the key
-/// of its first row, and sums its rows.
+/// `row_groups` divides the rows by what they have in the fields. The groups by keys are the same groups: each has the
+/// key of its first row, and sums its rows.
 pub fn rows_are_grouped_by_fields()
-    ensures grouped { (fields : List KeyField) (label : AddressOf → Option Label) (sorted : Bool) (rows : List RowView) →
-        AreGrouped label fields sorted rows (map (λ g. g.0 ∷ g.1) (row_groups label fields sorted rows)) }
+    ensures grouped { (fields : List KeyField) (label : AddressOf → Option Label) (sorted : Bool) (rows : List RowView)
+        → AreGrouped label fields sorted rows (map (λ g. g.0 ∷ g.1) (row_groups label fields sorted rows)) }
     ensures keys { (fields : List KeyField) (label : AddressOf → Option Label) (sorted : Bool) (rows : List RowView) →
         shown_groups sorted (groups_of fields label rows)
         ≡ map (group_with label fields) (row_groups label fields sorted rows) }

@@ -1,6 +1,6 @@
 //! `flowlabel`: labels addresses by a prefix map or a prefix list, prints, filters and sums the flows of IPFIX Files,
-//! and makes and checks shortest lists. All of it is in the library `flowlabel`, which gets the system's files and streams
-//! here.
+//! and makes and checks shortest lists. All of it is in the library `flowlabel`, which gets the system's files and
+//! streams here.
 #![tactic(auto)]
 
 use flow_io::Watched;

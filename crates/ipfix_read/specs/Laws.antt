@@ -14,7 +14,8 @@ abbrev pub FirstMessageAndRest : Type 0
 FirstMessageAndRest = (templates : InForce) (count offset : ℕ) (bytes after : List ℕ) (m : MessageView)
     → message_next templates count offset bytes ≡ Ok (m, after)
     → messages_from templates count offset bytes
-    ≡ after_items (m ∷ []) (messages_from (after_message templates m) (count + 1) (offset + (length bytes - length after)) after)
+    ≡ after_items (m ∷ [])
+    (messages_from (after_message templates m) (count + 1) (offset + (length bytes - length after)) after)
 
 -- the messages with their offsets are these messages
 abbrev pub PlacedAreMessages : Type 0
@@ -29,8 +30,10 @@ CallsStart = (templates : InForce) (count offset : ℕ) (input : InputView) (sta
 
 -- if some messages are read so far, the result of the next call joins them to the whole
 abbrev pub CallsJoinFile : Type 0
-CallsJoinFile = (templates : InForce) (count offset : ℕ) (start now then : InputView) (placed : List (ℕ × MessageView)) (old new : ProgressView) (result : Result (Option MessageView) ReadFault)
-    → IsReadTo templates count offset start placed old now → ReadsInput now then (AnswersNext old result new (has_ended then))
+CallsJoinFile = (templates : InForce) (count offset : ℕ) (start now then : InputView)
+    (placed : List (ℕ × MessageView)) (old new : ProgressView) (result : Result (Option MessageView) ReadFault)
+    → IsReadTo templates count offset start placed old now
+    → ReadsInput now then (AnswersNext old result new (has_ended then))
     → JoinsFile templates count offset start placed old.offset result new then
 
 -- Files that are joined, one after the other.

@@ -48,8 +48,8 @@ whole_reading templates offset bytes =
     (λ fault. fault)
     (sets_reading templates domain (offset + 16) (drop 16 bytes))
 
--- the message at the start of bytes at this offset, and the bytes after it, or its first fault; `count` messages precede it,
--- after which these templates are in force
+-- the message at the start of bytes at this offset, and the bytes after it, or its first fault; `count` messages
+-- precede it, after which these templates are in force
 abbrev pub message_next : InForce → ℕ → ℕ → List ℕ → Result (MessageView × List ℕ) ReadFault
 message_next templates count offset bytes =
     let size = written_length bytes in

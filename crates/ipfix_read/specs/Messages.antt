@@ -12,8 +12,8 @@ use Rattle.ipfix_read.specs.Fault.{out_of_memory, read_fault, is_of_calls, is_of
 
 -- Files (RFC 5655): consecutive messages.
 
--- The messages in bytes that begin at this offset, or the first fault; before them are `count` messages, after which these
--- templates are in force.
+-- The messages in bytes that begin at this offset, or the first fault; before them are `count` messages, after which
+-- these templates are in force.
 abbrev pub messages_from : InForce → ℕ → ℕ → List ℕ → Result (List MessageView) ReadFault
 messages_from templates count offset bytes =
     items_from {S = InForce × ℕ} (λ rest. length rest == 0)
@@ -32,8 +32,8 @@ StopsReading bytes = IfErr (file_reading bytes) (λ fault.
 
 -- Below: only contracts of parts and proofs use these; no promise of the program rests on them.
 
--- The bytes so far have no fault, but may end within a message, and this is the fault of a reader that failed there. The
--- fault has the offset of the message that was being read. `size` is the number of the bytes.
+-- The bytes so far have no fault, but may end within a message, and this is the fault of a reader that failed there.
+-- The fault has the offset of the message that was being read. `size` is the number of the bytes.
 abbrev pub StopsAfter : ℕ → Result (List MessageView) ReadFault → ReadFault → Type 0
 StopsAfter size (Ok messages) stop = stop ≡ read_fault size
 StopsAfter size (Err fault) stop =
@@ -79,57 +79,67 @@ pub record ProgressView : Type 0 where
 
 -- messages may follow, under these templates in force, after this number of messages and at this offset
 abbrev pub IsAt : InForce → ℕ → ℕ → ProgressView → Type 0
-IsAt templates count offset p = (template_at p.table ≡ templates) × (p.count ≡ count) × (p.offset ≡ offset) × (p.state ≡ Going)
+IsAt templates count offset p =
+    (template_at p.table ≡ templates) × (p.count ≡ count) × (p.offset ≡ offset) × (p.state ≡ Going)
 
--- The result of a call in the state Going, and the state after the call, by the bytes that the call took, and whether it
--- found the end of the input. A message consists of the taken bytes, whatever bytes follow them. There is no message if
--- there was no byte before the end. A fault is the first one of the File, in this message, whatever bytes may follow, or
--- that an allocation failed. It is the fault of a failed reader only if the taken bytes are the beginning of a message
--- and have no fault so far.
+-- The result of a call in the state Going, and the state after the call, by the bytes that the call took, and whether
+-- it found the end of the input. A message consists of the taken bytes, whatever bytes follow them. There is no message
+-- if there was no byte before the end. A fault is the first one of the File, in this message, whatever bytes may
+-- follow, or that an allocation failed. It is the fault of a failed reader only if the taken bytes are the beginning of
+-- a message and have no fault so far.
 abbrev pub AnswersNext : ProgressView → Result (Option MessageView) ReadFault → ProgressView → Bool → List ℕ → Type 0
 AnswersNext old (Ok (Some m)) new ended taken =
     ((rest : List ℕ) → message_next (template_at old.table) old.count old.offset (taken ++ rest) ≡ Ok (m, rest))
-    × (template_at new.table ≡ after_message (template_at old.table) m) × (new.offset ≡ old.offset + length taken) × (new.count ≡ old.count + 1) × (new.state ≡ Going)
+    × (template_at new.table ≡ after_message (template_at old.table) m)
+    × (new.offset ≡ old.offset + length taken) × (new.count ≡ old.count + 1) × (new.state ≡ Going)
 AnswersNext old (Ok None) new ended taken = (taken ≡ []) × (ended ≡ true) × (new.state ≡ Ended)
 AnswersNext old (Err fault) new ended taken =
     (new.state ≡ Failed)
     × ((fault ≡ out_of_memory)
     ⊎ (((fault ≡ read_fault old.offset) × IsIncomplete old.count taken)
     ⊎ ((is_of_calls fault.kind ≡ false) × (0 < length taken)
-    × ((rest : List ℕ) → MayFollow ended rest → message_next (template_at old.table) old.count old.offset (taken ++ rest) ≡ Err fault))))
+    × ((rest : List ℕ) → MayFollow ended rest
+    → message_next (template_at old.table) old.count old.offset (taken ++ rest) ≡ Err fault))))
 
 -- whether a result is that the reader failed
 abbrev pub is_read_fault : {A : Type 0} → Result A ReadFault → Bool
 is_read_fault (Ok _) = false
 is_read_fault (Err fault) = is_of_reader fault.kind
 
--- the message after this many messages has the taken bytes; there is no byte before the end; or this is the fault of the
--- header, or of a reader that failed before it
+-- the message after this many messages has the taken bytes; there is no byte before the end; or this is the fault of
+-- the header, or of a reader that failed before it
 abbrev pub Gathers : ℕ → Result (Option (List ℕ)) ReadFaultKind → Bool → List ℕ → Type 0
 Gathers count (Ok (Some front)) ended taken = front ≡ taken
 Gathers count (Ok None) ended taken = (taken ≡ []) × (ended ≡ true)
 Gathers count (Err kind) ended taken =
     ((kind ≡ Unread) × IsIncomplete count taken)
-    ⊎ ((is_of_calls kind ≡ false) × (0 < length taken) × ((rest : List ℕ) → MayFollow ended rest → header_fault count (taken ++ rest) ≡ Some kind))
+    ⊎ ((is_of_calls kind ≡ false) × (0 < length taken)
+    × ((rest : List ℕ) → MayFollow ended rest → header_fault count (taken ++ rest) ≡ Some kind))
 
 -- The calls of reading that began under these templates in force, after this number of messages and at this offset.
 module _ (templates : InForce) (count offset : ℕ) where
   -- The bytes that a reader has returned since `start` are these messages, each with its offset. The state between two
   -- calls is the one after these messages.
-  pub record IsReadTo (start : InputView) (messages : List (ℕ × MessageView)) (p : ProgressView) (now : InputView) : Type 0 where
+  pub record IsReadTo (start : InputView) (messages : List (ℕ × MessageView)) (p : ProgressView)
+      (now : InputView) : Type 0 where
     pub taken : List ℕ
     pub consumed : Gives start now taken
-    pub read : (rest : List ℕ) → placed_from templates count offset (taken ++ rest) ≡ after_items messages (placed_from (template_at p.table) p.count p.offset rest)
+    pub read : (rest : List ℕ) → placed_from templates count offset (taken ++ rest)
+        ≡ after_items messages (placed_from (template_at p.table) p.count p.offset rest)
     pub table : template_at p.table ≡ fold after_message templates (messages_in messages)
     pub counted : p.count ≡ count + length messages
     pub placed : p.offset ≡ offset + length taken
 
-  -- The meaning of a result for the bytes: their messages begin with those so far and one more at this offset; the end was found, and the
-  -- bytes returned are the messages so far; or the fault is their first one, whatever bytes may follow, unless it is that of
-  -- a failed allocation, or of a reader that failed before a fault.
-  abbrev pub JoinsFile : InputView → List (ℕ × MessageView) → ℕ → Result (Option MessageView) ReadFault → ProgressView → InputView → Type 0
+  -- The meaning of a result for the bytes: their messages begin with those so far and one more at this offset; the end
+  -- was found, and the bytes returned are the messages so far; or the fault is their first one, whatever bytes may
+  -- follow, unless it is that of a failed allocation, or of a reader that failed before a fault.
+  abbrev pub JoinsFile : InputView → List (ℕ × MessageView) → ℕ
+      → Result (Option MessageView) ReadFault → ProgressView → InputView → Type 0
   JoinsFile start placed at (Ok (Some m)) new now = IsReadTo start (placed ++ (at, m) ∷ []) new now
-  JoinsFile start placed at (Ok None) new now = ReadsInput start now (λ bytes. (has_ended now ≡ true) × (placed_from templates count offset bytes ≡ Ok placed))
+  JoinsFile start placed at (Ok None) new now = ReadsInput start now (λ bytes.
+      (has_ended now ≡ true) × (placed_from templates count offset bytes ≡ Ok placed))
   JoinsFile start placed at (Err fault) new now = ReadsInput start now (λ bytes. (fault ≡ out_of_memory)
       ⊎ (StopsFrom templates count offset bytes fault
-      ⊎ ((is_of_calls fault.kind ≡ false) × ((rest : List ℕ) → MayFollow (has_ended now) rest → messages_from templates count offset (bytes ++ rest) ≡ Err fault))))
+      ⊎ ((is_of_calls fault.kind ≡ false)
+      × ((rest : List ℕ) → MayFollow (has_ended now) rest
+      → messages_from templates count offset (bytes ++ rest) ≡ Err fault))))

@@ -30,9 +30,9 @@ after_set domain before set = fold (after_event domain) before (events_in set)
 abbrev pub template_kind : ℕ → Option Kind
 template_kind id = find (λ kind. id == set_id kind) (Flow ∷ Options ∷ [])
 
--- The content of a set with this ID, under the templates in force, or the first fault. Its bytes begin at this offset. It
--- consists of templates, or of records under the template in force. It is skipped if its ID has no meaning or no template
--- in force.
+-- The content of a set with this ID, under the templates in force, or the first fault. Its bytes begin at this offset.
+-- It consists of templates, or of records under the template in force. It is skipped if its ID has no meaning or no
+-- template in force.
 abbrev pub content_reading : InForce → ℕ → ℕ → ℕ → List ℕ → Result Set ReadFault
 content_reading templates domain id offset bytes =
     option_map_or (λ kind. result_map_both (Templates kind)
@@ -69,6 +69,7 @@ abbrev pub in_file : ℕ → TemplateFaultKind × ℕ → ReadFault
 in_file base fault = record { kind = BadTemplate fault.0; offset = base + fault.1 }
 
 -- the result of reading an item under a table, and the table after the item
-abbrev pub ReadsUnder : {A : Type 0} → TemplateTable → TemplateTable → (InForce → A → InForce) → Result A ReadFault → Result A ReadFault → Type 0
+abbrev pub ReadsUnder : {A : Type 0} → TemplateTable → TemplateTable → (InForce → A → InForce)
+    → Result A ReadFault → Result A ReadFault → Type 0
 ReadsUnder old new after reading (Ok item) = Reads reading (Ok item) × (template_at new ≡ after (template_at old) item)
 ReadsUnder old new after reading (Err fault) = Reads reading (Err fault)

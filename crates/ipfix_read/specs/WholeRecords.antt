@@ -11,7 +11,8 @@ use Rattle.ipfix_read.specs.Value.{values_at}
 unfoldable pub whole_records : Kind → List Field → ℕ → List ℕ → List Record
 whole_records kind fields zero bytes = []
 whole_records kind fields (suc count) bytes =
-    option_map_or (λ v. record { kind = kind; fields = v.0 } ∷ whole_records kind fields count v.1) (values_at fields bytes) []
+    option_map_or (λ v. record { kind = kind; fields = v.0 } ∷ whole_records kind fields count v.1)
+    (values_at fields bytes) []
 
 -- the records are at the start of the bytes, one after the other
 abbrev pub AreInBytes : List Record → List ℕ → Type 0
@@ -22,4 +23,5 @@ AreInBytes (r ∷ records) bytes =
 -- the bytes of a data set begin with `count` records, which are all
 abbrev pub ArePacked : Template → ℕ → List ℕ → ℕ → Type 0
 ArePacked t offset bytes count =
-    (length (whole_records t.kind t.fields count bytes) ≡ count) × (data_set_reading t offset bytes ≡ Ok (whole_records t.kind t.fields count bytes))
+    (length (whole_records t.kind t.fields count bytes) ≡ count)
+    × (data_set_reading t offset bytes ≡ Ok (whole_records t.kind t.fields count bytes))

@@ -13,8 +13,8 @@ pub fn placed_are_messages()
 {}
 
 /// Calls for messages join to the whole, whether reading begins with a File or after other messages. Before any call
-/// nothing is read. If some messages are read so far, the next call returns one more of them at the offset of the state,
-/// or that there are no more, or the first fault of the whole, or that the reader failed before it.
+/// nothing is read. If some messages are read so far, the next call returns one more of them at the offset of the
+/// state, or that there are no more, or the first fault of the whole, or that the reader failed before it.
 pub fn calls_join_file()
     ensures start { CallsStart }
     ensures join { CallsJoinFile }

@@ -25,9 +25,11 @@ withdraws domain id t (at, WithdrawAll kind) = at == domain && same_kind kind t.
 -- the last definition of an ID in a domain, with the events after it
 abbrev pub last_definition : ℕ → ℕ → List (ℕ × TemplateEvent) → Option (TemplateView × List (ℕ × TemplateEvent))
 last_definition domain id [] = None
-last_definition domain id (e ∷ es) = option_or (last_definition domain id es) (option_map (λ t. (t, es)) (definition domain id e))
+last_definition domain id (e ∷ es) =
+    option_or (last_definition domain id es) (option_map (λ t. (t, es)) (definition domain id e))
 
 -- the last definition of the ID in the domain, or none if a later event there withdraws it
 abbrev pub last_in_force : List (ℕ × TemplateEvent) → ℕ → ℕ → Option TemplateView
 last_in_force events domain id =
-    option_and_then (λ d. if list_any (withdraws domain id d.0) d.1 then None else Some d.0) (last_definition domain id events)
+    option_and_then (λ d. if list_any (withdraws domain id d.0) d.1 then None else Some d.0)
+    (last_definition domain id events)

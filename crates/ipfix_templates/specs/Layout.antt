@@ -8,13 +8,14 @@ use Rattle.ipfix_templates.specs.declared.layout.Place.{Place}
 use Rattle.ipfix_templates.specs.declared.layout.Places.{Places}
 use Rattle.ipfix_templates.specs.declared.layout.RowLayout.{RowLayout}
 
--- the place of an element of a direction: that of the value of the first usable field, after `skips` variable values and
--- `offset` bytes; a missing one has no length
+-- the place of an element of a direction: that of the value of the first usable field, after `skips` variable values
+-- and `offset` bytes; a missing one has no length
 abbrev pub place_of_element : Option ℕ → ℕ → ℕ → ℕ → List FieldView → Place
 place_of_element direction number skips offset [] = record { offset = 0; skips = 0; length = 0 }
 place_of_element direction number skips offset (f ∷ fs) =
     if is_usable direction number f then record { offset = offset; skips = skips; length = f.length }
-    else (if is_variable f then place_of_element direction number (skips + 1) 0 fs else place_of_element direction number skips (offset + f.length) fs)
+    else (if is_variable f then place_of_element direction number (skips + 1) 0 fs
+    else place_of_element direction number skips (offset + f.length) fs)
 
 abbrev pub is_there : Place → Bool
 is_there p = not (p.length == 0)
@@ -63,7 +64,8 @@ second_places first at = record {
 -- the places of both rows of flow records with these fields, if they have rows
 unfoldable pub flow_layout : List FieldView → Option RowLayout
 flow_layout fields =
-    option_map (λ first. record { first = first; second = second_places first (λ number. place_of_element back number 0 0 fields) })
+    option_map (λ first.
+    record { first = first; second = second_places first (λ number. place_of_element back number 0 0 fields) })
     (first_places (λ number. place_of_element forward number 0 0 fields))
 
 -- the places of both rows of records of this kind with these fields, if they have rows

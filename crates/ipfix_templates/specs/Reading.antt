@@ -9,10 +9,11 @@ use Rattle.ipfix_templates.specs.declared.event.TemplateEvent.{TemplateEvent}
 use Rattle.ipfix_templates.specs.declared.event.TemplateEvent.TheVariants.{Define, Withdraw, WithdrawAll}
 pub use Rattle.ipfix_templates.specs.declared.fault.TemplateFaultKind.{TemplateFaultKind}
 
--- Reading one item after another. `next` takes what came before, and the remaining bytes with their offset. It reads the
--- item at the start of the bytes, and gives it with the bytes after it, or gives a fault. `with_one` adds
--- the item to what came before. The items end at bytes that pass the test `ends`.
-module _ {S A F : Type 0} (ends : List ℕ → Bool) (next : S → ℕ → List ℕ → Result (A × List ℕ) F) (with_one : S → A → S) where
+-- Reading one item after another. `next` takes what came before, and the remaining bytes with their offset. It reads
+-- the item at the start of the bytes, and gives it with the bytes after it, or gives a fault. `with_one` adds the item
+-- to what came before. The items end at bytes that pass the test `ends`.
+module _ {S A F : Type 0} (ends : List ℕ → Bool) (next : S → ℕ → List ℕ → Result (A × List ℕ) F)
+    (with_one : S → A → S) where
   -- at most `most` items, or the first fault
   abbrev pub items_by : ℕ → S → ℕ → List ℕ → Result (List A) F
   items_by zero before offset bytes = Ok []
@@ -84,8 +85,8 @@ template_record_at kind bytes =
     else (if count == 0 then Ok (Withdraw id, drop 4 bytes)
     else definition_at kind id count (drop 4 bytes)))
 
--- the records of a template set, given the bytes after its header, or the first fault with its offset; fewer bytes than a
--- record has are padding
+-- the records of a template set, given the bytes after its header, or the first fault with its offset; fewer bytes than
+-- a record has are padding
 abbrev pub template_set_reading : Kind → List ℕ
     → Result (List TemplateEvent) (TemplateFaultKind × ℕ)
 template_set_reading kind bytes =

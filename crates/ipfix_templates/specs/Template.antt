@@ -21,7 +21,8 @@ pub record TemplateView : Type 0 where
 
 -- Below: only contracts of parts and proofs use these; no promise of the program rests on them.
 
--- a template can have this ID, which isn't reserved, and these numbers of scope fields and fields (RFC 7011 section 3.4)
+-- a template can have this ID, which isn't reserved, and these numbers of scope fields and fields (RFC 7011 section
+-- 3.4)
 abbrev pub IsTemplate : ℕ → Kind → ℕ → ℕ → Type 0
 IsTemplate id Flow scopes count = (256 ≤ id) × (scopes ≡ 0) × (0 < count)
 IsTemplate id Options scopes count = (256 ≤ id) × (0 < scopes) × (scopes ≤ count)

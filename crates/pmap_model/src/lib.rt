@@ -13,9 +13,9 @@
 //! texts. It never reads a text: pmap_text does, and pmap_stretches finds the stretches and runs of a map or a list.
 //! Callers may rely on this: the number of a label is its index in the order in which its table got the texts, so the
 //! number and the text determine each other. The type of a `MapText` guarantees that its statements are of its version
-//! and at most 1,000,000, and that their labels are in its table. The type of a `PrefixList` guarantees that its entries
-//! are of its version, that no two have the same block, and that their labels are in its table. The definitions that
-//! contracts cite, including the label that a map gives an address and settled blocks, are in `specs`.
+//! and at most 1,000,000, and that their labels are in its table. The type of a `PrefixList` guarantees that its
+//! entries are of its version, that no two have the same block, and that their labels are in its table. The definitions
+//! that contracts cite, including the label that a map gives an address and settled blocks, are in `specs`.
 #![tactic(auto)]
 
 mod entries;

@@ -208,8 +208,8 @@ impl Columns {
 
 // Prints the header and the lines of groups, with columns of these widths.
 //
-// `PADDED` is `true` in the call with columns. It changes no text, but gives each of the two calls functions of its own,
-// which LLVM inlines because they have one caller. So without columns no width is looked at, which is faster.
+// `PADDED` is `true` in the call with columns. It changes no text, but gives each of the two calls functions of its
+// own, which LLVM inlines because they have one caller. So without columns no width is looked at, which is faster.
 // `#[inline(always)]` would have no effect: `print_group` is so large that a proved build drops it.
 fn print_lines<'a, S: Sink, const PADDED: bool>(
     out: &mut S,

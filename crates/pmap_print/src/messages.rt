@@ -89,7 +89,8 @@ impl Printable for MessagesText<'_> {
 
     fn print<S: Sink>(&self, out: &mut S) -> Result<(), S::Fault> {
         out.push(
-            b"file|message|offset|domain|sequence|time|definitions|skipped-sets|records|options-records|rows|zero-bytes",
+            b"file|message|offset|domain|sequence|time|definitions|skipped-sets|records|options-records|rows|\
+              zero-bytes",
         )?;
         for line in self.lines {
             print_line(out, line)?;

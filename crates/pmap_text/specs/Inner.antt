@@ -104,8 +104,8 @@ pub record ReadsLine (old new : Earlier) (line : Result Earlier MapFaultKind)
 abbrev pub has_label_room : Earlier → Bool → Label → Bool
 has_label_room earlier room label = room && has_room earlier.table (meant_text earlier.declared label)
 
--- the lines of this text are read, after `before` others that led to the state `old`, with this result: it may depend on
--- the lines that follow the text
+-- the lines of this text are read, after `before` others that led to the state `old`, with this result: it may depend
+-- on the lines that follow the text
 abbrev pub ReadsTo : Form → Earlier → ℕ → List ℕ → (List (List ℕ) → Result Earlier MapFault) → Type 0
 ReadsTo form old before text result =
     (more : List (List ℕ)) → lines_read form before (Ok old) (lines_of text ++ more) ≡ result more

@@ -9,10 +9,11 @@
 //! ```
 //!
 //! This crate uses `prefix_keys` (addresses and blocks), `pmap_model` (maps, lists and their labels, which it also
-//! exports), `indexmap` for the table of declared numbers, and `memchr` to find the end of a line. It never reads a file,
-//! and looks up no address. Callers may rely on this: `read_map` and `read_list` return exactly the map or the list of
-//! the text, or the text's first fault with its line, counted from 1. A failed allocation has line 0. The number of a
-//! label is its index in the order in which label texts first occur. The definitions that contracts cite are in `specs`.
+//! exports), `indexmap` for the table of declared numbers, and `memchr` to find the end of a line. It never reads a
+//! file, and looks up no address. Callers may rely on this: `read_map` and `read_list` return exactly the map or the
+//! list of the text, or the text's first fault with its line, counted from 1. A failed allocation has line 0. The
+//! number of a label is its index in the order in which label texts first occur. The definitions that contracts cite
+//! are in `specs`.
 #![tactic(auto)]
 
 mod fault;

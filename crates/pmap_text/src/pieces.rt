@@ -9,8 +9,8 @@ use std::marker::Model;
 const PIECE: usize = 65_536;
 
 // The number of bytes for which a piece has room, 128 KB. It doesn't grow if at most 64 KB are added at a time. glibc's
-// `malloc` maps a block of this size, and unmaps it when it is freed. From then on it puts blocks of up to this size into
-// its heap, where they grow by copies, so a piece isn't larger.
+// `malloc` maps a block of this size, and unmaps it when it is freed. From then on it puts blocks of up to this size
+// into its heap, where they grow by copies, so a piece isn't larger.
 const ROOM: usize = 131_072;
 
 /// A text in pieces, all of which end with a line feed but for the last.

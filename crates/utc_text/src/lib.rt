@@ -7,8 +7,8 @@
 //! ```
 //!
 //! Days, hours and minutes are numbered, and the first of 1970 has the number 0. This crate uses jiff, a library of
-//! calendars. Callers may rely on this: there is a text up to the year 9999, and it is that of the date that one gets by
-//! counting the days of years and months from 1970 on.
+//! calendars. Callers may rely on this: there is a text up to the year 9999, and it is that of the date that one gets
+//! by counting the days of years and months from 1970 on.
 #![tactic(auto)]
 
 ghost use Rattle.std.specs.Prelude.{◌≡◌, ◌++◌, ◌+◌, ◌<◌, ◌≤◌, IfSome, length, option_map};
