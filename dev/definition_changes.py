@@ -5,6 +5,7 @@ Each change has a name, such as `255 → 256`, and is the whole text of the bloc
 types of expressions where the text shows them, but nothing here checks types.
 """
 
+import collections
 import re
 
 TOKEN = re.compile(r'"(?:[^"\\]|\\.)*"|[(){},;]|[^\s(){},;"]+')
@@ -555,9 +556,10 @@ def names_in(text, patterns):
 
 def variants_of(text):
     """Returns the groups of constructors that a module knows: of each imported type, and of each type that it imports by an alias."""
-    groups = []
-    for match in re.finditer(r"^\s*(?:pub )?use Rattle\.[\w.]+\.TheVariants\.\{(.*)\};?$", text, re.M):
-        groups.append([item.strip().split(" as ")[-1] for item in match[1].split(",")])
+    by_type = collections.defaultdict(list)
+    for kind, names in re.findall(r"^\s*(?:pub )?use Rattle\.([\w.]+)\.TheVariants\.\{(.*)\};?$", text, re.M):
+        by_type[kind] += [item.strip().split(" as ")[-1] for item in names.split(",")]
+    groups = [*by_type.values()]
     for match in re.finditer(r"^\s*(?:pub )?use Rattle\.[\w.]+ as (\w+);?$", text, re.M):
         names = dict.fromkeys(re.findall(rf"(?<![\w.]){match[1]}\.[A-Z]\w*", text))
         groups.append([name for name in names if not re.search(rf"\({re.escape(name)} \w", text)])

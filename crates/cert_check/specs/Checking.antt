@@ -1,4 +1,5 @@
-use Rattle.std.specs.Prelude.{Bool, true, false, ℕ, suc, List, [], ◌∷◌, ◌+◌, ◌-◌, ◌*◌, ◌^◌, ◌&&◌, ◌==◌, ◌≡◌, ◌≢◌, Err, Ok, Result, not, Option, Some, None, length, nat_lt, option_map, if◌then◌else◌}
+use Rattle.std.specs.Prelude.{Bool, true, false, ℕ, suc, List, [], ◌∷◌, ◌+◌, ◌-◌, ◌*◌, ◌^◌, ◌&&◌, ◌==◌, ◌≡◌, ◌≢◌}
+use Rattle.std.specs.Prelude.{Err, Ok, Result, not, Option, Some, None, length, nat_lt, option_map, if◌then◌else◌}
 use Rattle.std.specs.List.{list_all, list_any}
 use Rattle.std.specs.Option.{option_map_or, option_or}
 use Rattle.std.specs.Str.{bytes_eq}
@@ -10,12 +11,15 @@ use Rattle.pmap_model.specs.MapModel.{Label, MapModel, settled_label}
 use Rattle.pmap_cert.specs.Compacting.{line_count}
 use Rattle.pmap_cert.specs.declared.fault.CertFault.{CertFault}
 use Rattle.pmap_cert.specs.declared.fault.CertFaultKind.TheVariants.{NoMemory as NoMemoryForText}
-use Rattle.pmap_cert.specs.CertificateModel.{CertificateModel, ChainNode, InnerNode, LeafNode, Claim, Tree, claim_of, chain_claim, chosen_half, side_half, exact_claim}
+use Rattle.pmap_cert.specs.CertificateModel.{CertificateModel, ChainNode, InnerNode, LeafNode, Claim, Tree}
+use Rattle.pmap_cert.specs.CertificateModel.{claim_of, chain_claim, chosen_half, side_half, exact_claim}
 pub use Rattle.cert_check.specs.declared.fault.CheckFault.{CheckFault}
 pub use Rattle.cert_check.specs.declared.fault.CheckFaultKind.{CheckFaultKind}
 pub use Rattle.cert_check.specs.declared.fault.TextFault.{TextFault}
 pub use Rattle.cert_check.specs.declared.fault.TextFault.TheVariants.{Certificate, Check}
-pub use Rattle.cert_check.specs.declared.fault.CheckFaultKind.TheVariants.{BoundNotMet, CostTooHigh, LeafNotUniform, ListDiffers, NoMemory, SetTooSmall, VersionDiffers}
+pub use Rattle.cert_check.specs.declared.fault.CheckFaultKind.TheVariants.{BoundNotMet, CostTooHigh}
+pub use Rattle.cert_check.specs.declared.fault.CheckFaultKind.TheVariants.{LeafNotUniform, ListDiffers, NoMemory}
+pub use Rattle.cert_check.specs.declared.fault.CheckFaultKind.TheVariants.{SetTooSmall, VersionDiffers}
 use Rattle.pmap_model.specs.Label.{has_label}
 
 -- the versions are equal

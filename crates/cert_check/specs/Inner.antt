@@ -1,4 +1,5 @@
-use Rattle.std.specs.Prelude.{ℕ, suc, List, [], ◌∷◌, ◌≡◌, ◌+◌, ◌-◌, ◌^◌, ◌==◌, ◌&&◌, Bool, Option, None, Some, map, nat_le, option_map, length, ◌<◌, ◌≤◌, ◌≢◌, ◌++◌, Result, Ok, Err, drop}
+use Rattle.std.specs.Prelude.{ℕ, suc, List, [], ◌∷◌, ◌≡◌, ◌+◌, ◌-◌, ◌^◌, ◌==◌, ◌&&◌, Bool, Option, None, Some}
+use Rattle.std.specs.Prelude.{map, nat_le, option_map, length, ◌<◌, ◌≤◌, ◌≢◌, ◌++◌, Result, Ok, Err, drop}
 use Rattle.std.specs.List.{list_any}
 use Rattle.std.specs.Option.{option_or}
 use Rattle.prefix_keys.specs.Block.{block_number, width_of, first_of, last_of}
@@ -9,14 +10,16 @@ use Rattle.pmap_model.specs.ListModel.{ListModel, Prefix}
 use Rattle.pmap_model.specs.MapModel.{Label, MapModel}
 use Rattle.pmap_model.specs.PrefixList.{AreShortestFirst, list_of, number_of_block}
 use Rattle.pmap_model.specs.declared.label.LabelId.{LabelId}
-use Rattle.pmap_stretches.specs.Stretches.{AreLabelsBelow, AreStretches, StretchesModel, count_begun, label_held, last_at}
+use Rattle.pmap_stretches.specs.Stretches.{AreLabelsBelow, AreStretches, StretchesModel}
+use Rattle.pmap_stretches.specs.Stretches.{count_begun, label_held, last_at}
 use Rattle.pmap_model.specs.declared.map_text.MapText.{MapText}
 use Rattle.pmap_model.specs.declared.prefix_list.PrefixList.{PrefixList}
 use Rattle.pmap_model.specs.declared.statement.Statement.{Statement}
 use Rattle.pmap_model.specs.MapText.{text_at, map_of, text_if_some}
 use Rattle.pmap_cert.specs.Compacting.{line_count}
 use Rattle.pmap_cert.specs.CertificateText.{IsAscending}
-use Rattle.pmap_cert.specs.CertificateModel.{CertificateModel, ChainNode, Claim, InnerNode, Tree, chosen_half, claim_of, side_half}
+use Rattle.pmap_cert.specs.CertificateModel.{CertificateModel, ChainNode, Claim, InnerNode}
+use Rattle.pmap_cert.specs.CertificateModel.{Tree, chosen_half, claim_of, side_half}
 use Rattle.pmap_cert.specs.Format.{format_number}
 use Rattle.pmap_cert.specs.declared.format.Format.{Format}
 use Rattle.pmap_cert.specs.FormatReading.{Place}
@@ -25,7 +28,8 @@ use Rattle.pmap_cert.specs.declared.node.Claim.{Claim as Claimed}
 use Rattle.pmap_cert.specs.declared.fault.CertFaultKind.TheVariants.{NoMemory as NoMemoryForText}
 use Rattle.pmap_cert.specs.Inner.{node_due_at}
 use Rattle.pmap_model.specs.Steps.{◌>>=◌}
-use Rattle.cert_check.specs.Checking.{is_label_of, fault_of_number, first_fault, leaf_fault, node_fault, BoundNotMet, CheckFault, CheckFaultKind}
+use Rattle.cert_check.specs.Checking.{is_label_of, fault_of_number, first_fault, leaf_fault}
+use Rattle.cert_check.specs.Checking.{node_fault, BoundNotMet, CheckFault, CheckFaultKind}
 pub use Rattle.cert_check.specs.declared.source.Source.{Source}
 pub use Rattle.cert_check.specs.declared.sources.Sources.{Sources}
 pub use Rattle.cert_check.specs.declared.swept.Swept.{Swept}

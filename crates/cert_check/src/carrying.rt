@@ -1,7 +1,9 @@
 //! The statements of a map and the entries of a list that affect a block.
 ghost use Rattle.std.specs.Prelude.{◌≡◌, ℕ, ◌&&◌, ◌||◌, ◌++◌, ◌∷◌, [], nat_le, nat_lt, IfOk, OnOk, if◌then◌else◌};
 ghost use Rattle.std.specs.List.{list_any};
-ghost use Rattle.cert_check.specs.Carried.{carried_to, entries_carried_to, covers_whole as covers_whole_of, is_inside as is_inside_of, meets_block as meets_block_of, spans_block as spans_block_of};
+ghost use Rattle.cert_check.specs.Carried.{carried_to, entries_carried_to};
+ghost use Rattle.cert_check.specs.Carried.{covers_whole as covers_whole_of, is_inside as is_inside_of};
+ghost use Rattle.cert_check.specs.Carried.{meets_block as meets_block_of, spans_block as spans_block_of};
 
 use pmap_model::{Entry, Statement};
 use prefix_keys::Block;

@@ -1,6 +1,7 @@
 //! The check of the claims of inner nodes and chains. Sets are listed by ascending numbers, so one walk compares two
 //! sets.
-ghost use Rattle.std.specs.Prelude.{◌≡◌, ℕ, ◌+◌, ◌^◌, ◌<◌, ◌≤◌, ◌&&◌, ◌||◌, ◌==◌, ◌∷◌, [], IfSome, Some, None, length, map, nat_lt, not, if◌then◌else◌};
+ghost use Rattle.std.specs.Prelude.{◌≡◌, ℕ, ◌+◌, ◌^◌, ◌<◌, ◌≤◌, ◌&&◌, ◌||◌, ◌==◌, ◌∷◌, []};
+ghost use Rattle.std.specs.Prelude.{IfSome, Some, None, length, map, nat_lt, not, if◌then◌else◌};
 ghost use Rattle.std.specs.List.{list_all};
 ghost use Rattle.pmap_model.specs.MapText.{text_at};
 ghost use Rattle.pmap_cert.specs.CertificateText.{IsAscending};

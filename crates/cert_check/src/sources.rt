@@ -8,7 +8,8 @@ ghost use Rattle.pmap_cert.specs.CertificateModel.{chosen_half, side_half};
 ghost use Rattle.pmap_cert.specs.Packed.{bits_in};
 ghost use Rattle.pmap_cert.specs.Paths.{LeadsTo};
 ghost use Rattle.cert_check.specs.Checking.{leaf_fault as leaf_fault_of};
-ghost use Rattle.cert_check.specs.Inner.{AreOf, AreSources, HasKnownLabels, IsClear, IsHalfNumbered, IsOfList, IsOfMap, IsRangeOf, Origin, sides_fault as sides_fault_of};
+ghost use Rattle.cert_check.specs.Inner.{AreOf, AreSources, HasKnownLabels, IsClear, IsHalfNumbered};
+ghost use Rattle.cert_check.specs.Inner.{IsOfList, IsOfMap, IsRangeOf, Origin, sides_fault as sides_fault_of};
 
 use crate::fault::CheckFaultKind;
 use crate::source::Source;

@@ -3,7 +3,8 @@ ghost use Rattle.std.specs.Prelude.{◌≡◌, ◌+◌, ◌++◌, ◌∷◌, [],
 ghost use Rattle.std.specs.Option.{option_or};
 ghost use Rattle.pmap_model.specs.PrefixList.{number_of_block as number_of};
 ghost use Rattle.pmap_cert.specs.Packed.{bits_in};
-ghost use Rattle.cert_check.specs.Inner.{AreSources, FitsPath, IsAfter, IsWalkResult, IsHeld, IsRangeOf, chain_reading, fault_of_node, fault_with, halves_reading, held_claim, number_at, reading_at};
+ghost use Rattle.cert_check.specs.Inner.{AreSources, FitsPath, IsAfter, IsWalkResult, IsHeld, IsRangeOf, chain_reading};
+ghost use Rattle.cert_check.specs.Inner.{fault_of_node, fault_with, halves_reading, held_claim, number_at, reading_at};
 
 use crate::claims::{chain_fault, claim_fault};
 use crate::fault::{CheckFault, CheckFaultKind};

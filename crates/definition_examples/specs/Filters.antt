@@ -8,7 +8,9 @@ use Rattle.flow_filter.specs.Condition.{filter_of, passing, row_passes}
 use Rattle.flow_filter.specs.declared.fault.FilterFault.{FilterFault}
 use Rattle.flow_filter.specs.declared.fault.FilterFaultKind.{FilterFaultKind}
 use Rattle.flow_filter.specs.declared.option.FilterOption.{FilterOption}
-use Rattle.flow_filter.specs.declared.option.FilterOption.TheVariants.{AnyLabel, Bytes, DestinationAddress, DestinationLabel, DestinationPort, Packets, Protocol, SourceAddress, SourceLabel, SourcePort}
+use Rattle.flow_filter.specs.declared.option.FilterOption.TheVariants.{AnyLabel, Bytes, DestinationAddress}
+use Rattle.flow_filter.specs.declared.option.FilterOption.TheVariants.{DestinationLabel, DestinationPort, Packets}
+use Rattle.flow_filter.specs.declared.option.FilterOption.TheVariants.{Protocol, SourceAddress, SourceLabel, SourcePort}
 
 -- What examples ask of filters.
 

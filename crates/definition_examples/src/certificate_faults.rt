@@ -3,7 +3,8 @@
 
 ghost use Rattle.definition_examples.specs.Certificates.{at_certificate_line, head, lines, quarters};
 ghost use Rattle.pmap_cert.specs.FormatReading.{format_reading};
-ghost use Rattle.pmap_cert.specs.declared.fault.CertFaultKind.TheVariants.{BadHeader, BadLabelTable, BadNode, NodesLeft, NodesMissing, TooDeep};
+ghost use Rattle.pmap_cert.specs.declared.fault.CertFaultKind.TheVariants.{BadHeader, BadLabelTable, BadNode};
+ghost use Rattle.pmap_cert.specs.declared.fault.CertFaultKind.TheVariants.{NodesLeft, NodesMissing, TooDeep};
 ghost use Rattle.std.specs.Prelude.{◌≡◌, ◌++◌, ◌∷◌, [], codes, Err, replicate};
 
 /// Line 1 is not a valid header.

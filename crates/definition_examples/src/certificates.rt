@@ -1,8 +1,10 @@
 //! Certificates: their texts, both ways, and compacting. The trees are written down by hand.
 #![tactic(auto, unfolding(crate::specs::Certificates::opened))]
 
-ghost use Rattle.definition_examples.specs.Certificates.{compacted_text, last, last_opened, nested, nested_tree, opened_text, quarters};
-ghost use Rattle.pmap_cert.specs.CertificateModel.{ChainNode, InnerNode, LeafNode, chain_claim, chosen_half, exact_claim, side_half};
+ghost use Rattle.definition_examples.specs.Certificates.{compacted_text, last, last_opened, nested};
+ghost use Rattle.definition_examples.specs.Certificates.{nested_tree, opened_text, quarters};
+ghost use Rattle.pmap_cert.specs.CertificateModel.{ChainNode, InnerNode, LeafNode, chain_claim};
+ghost use Rattle.pmap_cert.specs.CertificateModel.{chosen_half, exact_claim, side_half};
 ghost use Rattle.pmap_cert.specs.CertificateText.{certificate_text};
 ghost use Rattle.pmap_cert.specs.Compacting.{compact, line_count};
 ghost use Rattle.pmap_cert.specs.FormatReading.{format_reading};

@@ -2,9 +2,13 @@
 #![tactic(auto, unfolding(crate::specs::Certificates::opened))]
 
 ghost use Rattle.cert_check.specs.Checking.{fault_of_number, claim_fault};
-ghost use Rattle.cert_check.specs.declared.fault.CheckFaultKind.TheVariants.{BoundNotMet, CostTooHigh, LeafNotUniform, ListDiffers, SetTooSmall, VersionDiffers};
-ghost use Rattle.definition_examples.specs.Certificates.{AreMinimalPair, head, last, last_list, last_map, minimal, quarters, quarters_list, quarters_map, refused, verdict, AreMinimalAsRead};
-ghost use Rattle.pmap_cert.specs.Acceptance.{begins_before, HasBlock, IsInOrder, StandsFor, entries_of, handed_on, in_table_order, least_label, own_entry};
+ghost use Rattle.cert_check.specs.declared.fault.CheckFaultKind.TheVariants.{BoundNotMet, CostTooHigh, LeafNotUniform};
+ghost use Rattle.cert_check.specs.declared.fault.CheckFaultKind.TheVariants.{ListDiffers, SetTooSmall, VersionDiffers};
+ghost use Rattle.definition_examples.specs.Certificates.{AreMinimalPair, head, last, last_list, last_map};
+ghost use Rattle.definition_examples.specs.Certificates.{minimal, quarters, quarters_list, quarters_map};
+ghost use Rattle.definition_examples.specs.Certificates.{refused, verdict, AreMinimalAsRead};
+ghost use Rattle.pmap_cert.specs.Acceptance.{begins_before, HasBlock, IsInOrder, StandsFor, entries_of};
+ghost use Rattle.pmap_cert.specs.Acceptance.{handed_on, in_table_order, least_label, own_entry};
 ghost use Rattle.pmap_cert.specs.CertificateModel.{ChainNode, InnerNode, LeafNode};
 ghost use Rattle.pmap_cert.specs.FormatReading.{format_reading};
 ghost use Rattle.pmap_model.specs.MapModel.{meets};

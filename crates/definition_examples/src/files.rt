@@ -1,18 +1,24 @@
 //! IPFIX Files: what is counted and which rows there are, and each fault with its offset. Bytes are in hexadecimal.
 #![tactic(auto, unfolding(crate::specs::Files::opened))]
 
-ghost use Rattle.definition_examples.specs.Files.{at_offset, counts, lacks, rfc_decoded, rfc_message, rows, of_messages};
+ghost use Rattle.definition_examples.specs.Files.{at_offset, counts, lacks, rfc_decoded};
+ghost use Rattle.definition_examples.specs.Files.{rfc_message, rows, of_messages};
 ghost use Rattle.definition_examples.specs.Rows.{hex, plain};
 ghost use Rattle.flow_rows.specs.Laws.{summed_counts, sums};
 ghost use Rattle.ipfix_read.specs.Message.{own_fault, header_fault};
 ghost use Rattle.ipfix_read.specs.Messages.{StopsReading, file_reading, messages_from, StopsFrom};
 ghost use Rattle.ipfix_read.specs.Set.{set_next};
 ghost use Rattle.ipfix_read.specs.Value.{variable_at};
-ghost use Rattle.ipfix_read.specs.declared.fault.ReadFaultKind.TheVariants.{BadMessageLength, BadRecord, BadSetLength, BadTemplate, BadVersion, ReadFault as Unread, TooManyMessages, TruncatedHeader, TruncatedMessage};
+ghost use Rattle.ipfix_read.specs.declared.fault.ReadFaultKind.TheVariants.{BadMessageLength, BadRecord};
+ghost use Rattle.ipfix_read.specs.declared.fault.ReadFaultKind.TheVariants.{BadSetLength, BadTemplate, BadVersion};
+ghost use Rattle.ipfix_read.specs.declared.fault.ReadFaultKind.TheVariants.{ReadFault as Unread, TooManyMessages};
+ghost use Rattle.ipfix_read.specs.declared.fault.ReadFaultKind.TheVariants.{TruncatedHeader, TruncatedMessage};
 ghost use Rattle.ipfix_read.specs.declared.set.Set.TheVariants.{Skipped};
 ghost use Rattle.ipfix_templates.specs.InForce.{no_templates};
-ghost use Rattle.ipfix_templates.specs.declared.fault.TemplateFaultKind.TheVariants.{BadScope, BadTemplateId, Truncated};
-ghost use Rattle.std.specs.Prelude.{◌≡◌, ◌++◌, ◌∷◌, [], codes, Err, false, None, Ok, replicate, Some, take, true, is_ok};
+ghost use Rattle.ipfix_templates.specs.declared.fault.TemplateFaultKind.TheVariants.{BadScope, BadTemplateId};
+ghost use Rattle.ipfix_templates.specs.declared.fault.TemplateFaultKind.TheVariants.{Truncated};
+ghost use Rattle.std.specs.Prelude.{◌≡◌, ◌++◌, ◌∷◌, [], codes, Err, false, None};
+ghost use Rattle.std.specs.Prelude.{Ok, replicate, Some, take, true, is_ok};
 
 /// RFC 7011, appendix A: one template, one options template, three records and two options records.
 pub fn the_message_of_rfc_7011()

@@ -6,7 +6,10 @@ ghost use Rattle.definition_examples.specs.Maps.{by_map};
 ghost use Rattle.definition_examples.specs.Rows.{tcp, tcp_back};
 ghost use Rattle.flow_filter.specs.Condition.{passing};
 ghost use Rattle.flow_filter.specs.declared.fault.FilterFaultKind.TheVariants.{BadBlock, BadNumberList, BadRange};
-ghost use Rattle.flow_filter.specs.declared.option.FilterOption.TheVariants.{AnyLabel, Bytes, DestinationAddress, DestinationLabel, DestinationPort, Packets, Protocol, SourceAddress, SourceLabel, SourcePort};
+ghost use Rattle.flow_filter.specs.declared.option.FilterOption.TheVariants.{AnyLabel, Bytes, DestinationAddress};
+ghost use Rattle.flow_filter.specs.declared.option.FilterOption.TheVariants.{DestinationLabel, DestinationPort};
+ghost use Rattle.flow_filter.specs.declared.option.FilterOption.TheVariants.{Packets, Protocol, SourceAddress};
+ghost use Rattle.flow_filter.specs.declared.option.FilterOption.TheVariants.{SourceLabel, SourcePort};
 ghost use Rattle.prefix_keys.specs.declared.version.Version.TheVariants.{V6};
 ghost use Rattle.std.specs.Prelude.{◌≡◌, ◌∷◌, [], codes, Err, false, None, Ok, true};
 

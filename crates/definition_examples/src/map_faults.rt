@@ -2,7 +2,10 @@
 
 ghost use Rattle.definition_examples.specs.Maps.{at_line};
 ghost use Rattle.pmap_text.specs.Reading.{list_reading, map_reading};
-ghost use Rattle.pmap_text.specs.declared.fault.MapFaultKind.TheVariants.{BadAddress, BadLabel, BadLength, BadMode, BadStatement, DuplicateBlock, LabelConflict, LowAboveHigh, MissingLabel, ModeLate, ModeRepeated, NotAList, WrongVersion};
+ghost use Rattle.pmap_text.specs.declared.fault.MapFaultKind.TheVariants.{BadAddress, BadLabel, BadLength, BadMode};
+ghost use Rattle.pmap_text.specs.declared.fault.MapFaultKind.TheVariants.{BadStatement, DuplicateBlock, LabelConflict};
+ghost use Rattle.pmap_text.specs.declared.fault.MapFaultKind.TheVariants.{LowAboveHigh, MissingLabel, ModeLate};
+ghost use Rattle.pmap_text.specs.declared.fault.MapFaultKind.TheVariants.{ModeRepeated, NotAList, WrongVersion};
 ghost use Rattle.std.specs.Prelude.{◌≡◌, ◌++◌, ◌∷◌, [], codes, Err, replicate};
 
 /// The first word is unknown, or the number after `label` is missing or malformed.

@@ -1,7 +1,8 @@
 //! Rows of records. The elements are those of IANA's registry, and bytes are in network byte order (RFC 7011).
 #![tactic(auto, unfolding(crate::specs::Rows::opened))]
 
-ghost use Rattle.definition_examples.specs.Rows.{field, first_ipv6, hex, plain, plain_back, plain_ipv6, reverse, rows_of, rows_with, second_ipv6, tcp, tcp_back, tcp_values, value};
+ghost use Rattle.definition_examples.specs.Rows.{field, first_ipv6, hex, plain, plain_back, plain_ipv6, reverse};
+ghost use Rattle.definition_examples.specs.Rows.{rows_of, rows_with, second_ipv6, tcp, tcp_back, tcp_values, value};
 ghost use Rattle.flow_rows.specs.Elements.{rows_of_record};
 ghost use Rattle.ipfix_read.specs.Value.{values_at};
 ghost use Rattle.ipfix_templates.specs.Elements.{fits};

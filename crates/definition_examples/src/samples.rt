@@ -3,7 +3,8 @@
 #![tactic(auto, unfolding(crate::specs::Files::opened))]
 
 ghost use Rattle.definition_examples.specs.Files.{of_messages};
-ghost use Rattle.definition_examples.specs.Samples.{ends_of, pmacctd, softflowd, softflowd_biflow, softflowd_milli, summary};
+ghost use Rattle.definition_examples.specs.Samples.{ends_of, pmacctd, softflowd};
+ghost use Rattle.definition_examples.specs.Samples.{softflowd_biflow, softflowd_milli, summary};
 ghost use Rattle.flow_rows.specs.Counts.{counts_of, rows_of_messages};
 ghost use Rattle.ipfix_read.specs.Messages.{file_reading};
 ghost use Rattle.prefix_keys.specs.declared.version.Version.TheVariants.{V4, V6};

@@ -4,7 +4,8 @@
 ghost use Rattle.definition_examples.specs.Rows.{field, hex};
 ghost use Rattle.ipfix_templates.specs.Reading.{template_record_at, field_at};
 ghost use Rattle.ipfix_templates.specs.declared.event.TemplateEvent.TheVariants.{WithdrawAll, Withdraw};
-ghost use Rattle.ipfix_templates.specs.declared.fault.TemplateFaultKind.TheVariants.{BadTemplateId, BadScope, Truncated};
+ghost use Rattle.ipfix_templates.specs.declared.fault.TemplateFaultKind.TheVariants.{BadTemplateId};
+ghost use Rattle.ipfix_templates.specs.declared.fault.TemplateFaultKind.TheVariants.{BadScope, Truncated};
 ghost use Rattle.ipfix_templates.specs.declared.kind.Kind.TheVariants.{Flow, Options};
 ghost use Rattle.std.specs.Prelude.{◌≡◌, ◌∷◌, [], Err, Ok, codes, None, Some};
 

@@ -14,7 +14,9 @@ use Rattle.flow_files.specs.ByFile as role
 use Rattle.flow_files.specs.declared.bytes_fault.SumFaultKind.{SumFaultKind}
 use Rattle.flow_files.specs.declared.bytes_fault.SumFaultKind.TheVariants as sum
 use Rattle.flow_files.specs.declared.bytes_fault.BytesFault.{BytesFault}
-use Rattle.flow_files.specs.declared.bytes_fault.BytesFault.TheVariants.{Map as InMap, List as InList, Flows as InFlows, Certificate as InCertificate, Check as InCheck, Sum as InSum}
+use Rattle.flow_files.specs.declared.bytes_fault.BytesFault.TheVariants.{Map as InMap, List as InList, Flows as InFlows}
+use Rattle.flow_files.specs.declared.bytes_fault.BytesFault.TheVariants.{Certificate as InCertificate, Check as InCheck}
+use Rattle.flow_files.specs.declared.bytes_fault.BytesFault.TheVariants.{Sum as InSum}
 
 -- The code, the name and the position of a fault of a file's bytes, or of a certificate for a map and a list.
 

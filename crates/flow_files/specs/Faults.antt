@@ -7,7 +7,8 @@ use Rattle.flow_uniq.specs.declared.fault.KeyFault.{KeyFault}
 use Rattle.flow_uniq.specs.declared.fault.KeyFault.TheVariants as keys
 use Rattle.flow_files.specs.BytesFault.{name_and_position}
 use Rattle.flow_files.specs.declared.fault.RunFault.{RunFault}
-use Rattle.flow_files.specs.declared.fault.RunFault.TheVariants.{CannotOpen, CannotRead, CannotWrite, File, NoMemory, Usage}
+use Rattle.flow_files.specs.declared.fault.RunFault.TheVariants.{CannotOpen, CannotRead}
+use Rattle.flow_files.specs.declared.fault.RunFault.TheVariants.{CannotWrite, File, NoMemory, Usage}
 use Rattle.flow_files.specs.declared.usage.UsageFault.{UsageFault}
 use Rattle.flow_files.specs.declared.usage.UsageFault.TheVariants as usage
 

@@ -1,4 +1,5 @@
-use Rattle.std.specs.Prelude.{◌∷◌, ◌++◌, [], Bool, List, Option, codes, decimal, if◌then◌else◌, is_some, length, map, sum_by, unwrap_or}
+use Rattle.std.specs.Prelude.{◌∷◌, ◌++◌, [], Bool, List, Option, codes, decimal}
+use Rattle.std.specs.Prelude.{if◌then◌else◌, is_some, length, map, sum_by, unwrap_or}
 use Rattle.prefix_keys.specs.Print.{address_text}
 use Rattle.label_lookup.specs.Labelling.{Labelling, label_where}
 use Rattle.flow_rows.specs.Elements.{RowView}
@@ -6,7 +7,9 @@ use Rattle.flow_uniq.specs.Grouped.{AreGrouped, row_groups}
 use Rattle.flow_uniq.specs.Key.{field_name}
 use Rattle.flow_uniq.specs.Times.{unit_start}
 use Rattle.flow_uniq.specs.declared.field.KeyField.{KeyField}
-use Rattle.flow_uniq.specs.declared.field.KeyField.TheVariants.{DestinationAddress, DestinationLabel, DestinationPort, Flags, Protocol, SourceAddress, SourceLabel, SourcePort, Start}
+use Rattle.flow_uniq.specs.declared.field.KeyField.TheVariants.{DestinationAddress, DestinationLabel}
+use Rattle.flow_uniq.specs.declared.field.KeyField.TheVariants.{DestinationPort, Flags, Protocol}
+use Rattle.flow_uniq.specs.declared.field.KeyField.TheVariants.{SourceAddress, SourceLabel, SourcePort, Start}
 use Rattle.pmap_print.specs.Reports.{group_titles}
 use Rattle.pmap_print.specs.Table.{table_text}
 use Rattle.pmap_print.specs.Times.{time_text}

@@ -9,7 +9,8 @@ use Rattle.flow_files.specs.Outcomes.{BytesFault, Outcome}
 use Rattle.flow_files.specs.Sources.{Text}
 pub use Rattle.flow_files.specs.declared.inputs.Source.{Source}
 pub use Rattle.flow_files.specs.declared.fault.RunFault.{RunFault}
-pub use Rattle.flow_files.specs.declared.fault.RunFault.TheVariants.{CannotOpen, CannotRead, CannotWrite, File, NoMemory, Usage}
+pub use Rattle.flow_files.specs.declared.fault.RunFault.TheVariants.{CannotOpen, CannotRead}
+pub use Rattle.flow_files.specs.declared.fault.RunFault.TheVariants.{CannotWrite, File, NoMemory, Usage}
 
 -- What contracts see of the files that a command reads, and the faults that reading them may have.
 

@@ -1,4 +1,5 @@
-use Rattle.std.specs.Prelude.{◌≡◌, ⊤, ◌≤◌, ◌<◌, ◌*◌, ◌++◌, ◌∷◌, [], List, ℕ, Option, Some, None, is_some, Result, Ok, Err, false, true, length, option_map}
+use Rattle.std.specs.Prelude.{◌≡◌, ⊤, ◌≤◌, ◌<◌, ◌*◌, ◌++◌, ◌∷◌, [], List, ℕ, Option, Some}
+use Rattle.std.specs.Prelude.{None, is_some, Result, Ok, Err, false, true, length, option_map}
 use Rattle.std.specs.Borrow.{Bor}
 use Rattle.std.specs.Global.{Vec}
 use Rattle.std.specs.Result.{result_map_both}
@@ -8,7 +9,8 @@ use Rattle.pmap_model.specs.PrefixList.{list_of}
 use Rattle.pmap_model.specs.MapModel.{Label}
 use Rattle.pmap_model.specs.Steps.{◌>>=◌}
 use Rattle.pmap_text.specs.Reading.{map_reading, list_reading}
-use Rattle.label_lookup.specs.Labelling.{Labelling, StretchModel, label_where, labelling_of_list, labelling_of_map, labelling_of_stretches}
+use Rattle.label_lookup.specs.Labelling.{Labelling, StretchModel, label_where, labelling_of_list}
+use Rattle.label_lookup.specs.Labelling.{labelling_of_map, labelling_of_stretches}
 use Rattle.ipfix_read.specs.Fault.{is_of_reader}
 use Rattle.ipfix_templates.specs.InForce.{no_templates}
 use Rattle.ipfix_read.specs.Messages.{IsReadTo, ProgressView, StopsReading, file_reading, placed_messages}
@@ -21,11 +23,13 @@ use Rattle.flow_filter.specs.Condition.{Condition, passing}
 use Rattle.flow_uniq.specs.Groups.{GroupsModel, groups_of, record_count}
 use Rattle.flow_files.specs.ByFile.{ByFile, Role, at, turn}
 use Rattle.flow_files.specs.declared.bytes_fault.BytesFault.TheVariants.{Flows as InFlows, List as InList, Map as InMap}
-use Rattle.flow_files.specs.Outcomes.{BytesFault, Outcome, labels_reading, report_reading, source_reading, with_bytes_fault}
+use Rattle.flow_files.specs.Outcomes.{BytesFault, Outcome, labels_reading}
+use Rattle.flow_files.specs.Outcomes.{report_reading, source_reading, with_bytes_fault}
 use Rattle.flow_files.specs.declared.label_file.LabelFile.{LabelFile}
 use Rattle.flow_files.specs.declared.label_file.LabelFile.TheVariants.{Map, List as Prefixes}
 use Rattle.flow_files.specs.Sources.{Text}
-use Rattle.flow_files.specs.Readers.{AreReadOn, CannotRead, CannotWrite, File, IsFaultFor, IsFaultOf, MayHave, NoMemory, Readers, RunFault, Source, any_failed, name_in, view_of}
+use Rattle.flow_files.specs.Readers.{AreReadOn, CannotRead, CannotWrite, File, IsFaultFor, IsFaultOf, MayHave}
+use Rattle.flow_files.specs.Readers.{NoMemory, Readers, RunFault, Source, any_failed, name_in, view_of}
 use Rattle.flow_files.specs.declared.filtered.Filtered.{Filtered}
 use Rattle.flow_files.specs.declared.labels.LabelsRead.{LabelsRead}
 use Rattle.flow_files.specs.declared.labels.LabelsRead.TheVariants as read

@@ -1,5 +1,7 @@
 ghost use Rattle.std.specs.Prelude.{◌≡◌};
-ghost use Rattle.flow_files.specs.BytesFault.{certificate_fault_name, check_fault_name, flows_fault_name, is_out_of_memory, map_fault_name, name_and_position, sum_fault_name, template_fault_name};
+ghost use Rattle.flow_files.specs.BytesFault.{certificate_fault_name, check_fault_name};
+ghost use Rattle.flow_files.specs.BytesFault.{flows_fault_name, is_out_of_memory, map_fault_name};
+ghost use Rattle.flow_files.specs.BytesFault.{name_and_position, sum_fault_name, template_fault_name};
 
 use cert_check::{CheckFault, CheckFaultKind};
 use ipfix_read::{ReadFault, ReadFaultKind};

@@ -2,7 +2,8 @@
 ghost use Rattle.std.specs.Prelude.{IfOk};
 ghost use Rattle.std.specs.List.{fold};
 ghost use Rattle.clap.specs.Words.{App};
-ghost use Rattle.flow_files.specs.Definition.{IsArgument, IsCommand, app_for, as_program, rule_for, with_argument, with_sub};
+ghost use Rattle.flow_files.specs.Definition.{IsArgument, IsCommand, app_for, as_program};
+ghost use Rattle.flow_files.specs.Definition.{rule_for, with_argument, with_sub};
 
 use Argument::{Flag, Needed, Optional, Word, Words};
 use clap::{Arg, ArgAction, Command};

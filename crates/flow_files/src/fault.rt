@@ -1,6 +1,7 @@
 ghost use Rattle.std.specs.Prelude.{◌≡◌, IfOk};
 ghost use Rattle.std.specs.String.{string_bytes};
-ghost use Rattle.flow_files.specs.Faults.{fault_text, file_text, filter_fault_text, key_fault_text, named_text, option_text, out_of_memory_text, position_text, status_of, usage_fault_text};
+ghost use Rattle.flow_files.specs.Faults.{fault_text, file_text, filter_fault_text, key_fault_text, named_text};
+ghost use Rattle.flow_files.specs.Faults.{option_text, out_of_memory_text, position_text, status_of, usage_fault_text};
 ghost use Rattle.flow_files.specs.Readers.{IsFaultFor};
 
 use crate::bytes_fault::BytesFault;

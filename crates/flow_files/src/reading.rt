@@ -5,7 +5,8 @@ ghost use Rattle.pmap_model.specs.PrefixList.{list_of};
 ghost use Rattle.pmap_text.specs.Reading.{list_reading, map_reading};
 ghost use Rattle.pmap_cert.specs.Certificate.{certificate_of};
 ghost use Rattle.pmap_cert.specs.FormatReading.{format_reading};
-ghost use Rattle.flow_files.specs.declared.bytes_fault.BytesFault.TheVariants.{Certificate as InCertificate, List as InList, Map as InMap};
+ghost use Rattle.flow_files.specs.declared.bytes_fault.BytesFault.TheVariants.{Certificate as InCertificate};
+ghost use Rattle.flow_files.specs.declared.bytes_fault.BytesFault.TheVariants.{List as InList, Map as InMap};
 ghost use Rattle.flow_files.specs.Reports.{Decodes, IsFresh, IsText};
 ghost use Rattle.flow_io.specs.Devices.{Gives as GivesBytes, ReadsInput, has_ended, is_failed_read};
 

@@ -5,7 +5,8 @@ ghost use Rattle.flow_filter.specs.Filters.{option_texts};
 ghost use Rattle.flow_filter.specs.Options.{name_of};
 ghost use Rattle.clap.specs.Words.{first_of, found_of, kind_of, rows_of};
 ghost use Rattle.flow_files.specs.Sources.{source_of};
-ghost use Rattle.flow_files.specs.Answer.{IsFaultOfKind, IsUnlessMemory, condition_in_rows, fields_in_rows, fields_reading, is_given, sources_in_rows, text_in_rows, words_fault_of};
+ghost use Rattle.flow_files.specs.Answer.{IsFaultOfKind, IsUnlessMemory, condition_in_rows, fields_in_rows};
+ghost use Rattle.flow_files.specs.Answer.{fields_reading, is_given, sources_in_rows, text_in_rows, words_fault_of};
 
 use crate::label_file::LabelFile;
 use crate::usage::UsageFault;

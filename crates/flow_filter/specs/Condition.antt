@@ -1,4 +1,5 @@
-use Rattle.std.specs.Prelude.{ℕ, ◌-◌, ◌^◌, ◌==◌, Bool, true, false, List, [], ◌∷◌, ◌++◌, Option, Some, None, Result, Ok, Err, ◌&&◌, nat_le, ◌||◌, filter, find, is_none, map, option_map}
+use Rattle.std.specs.Prelude.{ℕ, ◌-◌, ◌^◌, ◌==◌, Bool, true, false, List, [], ◌∷◌, ◌++◌, Option, Some, None}
+use Rattle.std.specs.Prelude.{Result, Ok, Err, ◌&&◌, nat_le, ◌||◌, filter, find, is_none, map, option_map}
 use Rattle.std.specs.List.{list_all, list_any, slice_split}
 use Rattle.std.specs.Option.{option_eq, option_map_or, option_to_list}
 use Rattle.std.specs.Str.{bytes_eq}
@@ -7,7 +8,9 @@ use Rattle.prefix_keys.specs.Conversion.{converted}
 use Rattle.prefix_keys.specs.Text.{AddressOf, BlockOf, all_some}
 use Rattle.label_lookup.specs.Labelling.{Labelling, label_where}
 use Rattle.flow_rows.specs.Elements.{RowView}
-use Rattle.flow_filter.specs.Options.{FilterOption, is_list, is_on_labels, kind_of, AnyLabel, Bytes, DestinationAddress, DestinationLabel, DestinationPort, Packets, Protocol, SourceAddress, SourceLabel, SourcePort}
+use Rattle.flow_filter.specs.Options.{FilterOption, is_list, is_on_labels, kind_of, AnyLabel}
+use Rattle.flow_filter.specs.Options.{Bytes, DestinationAddress, DestinationLabel, DestinationPort}
+use Rattle.flow_filter.specs.Options.{Packets, Protocol, SourceAddress, SourceLabel, SourcePort}
 use Rattle.flow_filter.specs.Texts.{address_item, number_range}
 pub use Rattle.flow_filter.specs.declared.fault.FilterFault.{FilterFault}
 use Rattle.flow_filter.specs.declared.option.TheConstants.{ALL_OPTIONS}

@@ -1,4 +1,5 @@
-use Rattle.std.specs.Prelude.{◌≡◌, ◌⊎◌, ℕ, ◌+◌, ◌++◌, ◌∷◌, Bool, true, false, List, Option, None, Err, find, map, option_map}
+use Rattle.std.specs.Prelude.{◌≡◌, ◌⊎◌, ℕ, ◌+◌, ◌++◌, ◌∷◌, Bool, true, false}
+use Rattle.std.specs.Prelude.{List, Option, None, Err, find, map, option_map}
 use Rattle.std.specs.List.{list_any}
 use Rattle.std.specs.List.Sorted.{IsNonDecreasingBy}
 use Rattle.prefix_keys.specs.Conversion.{mapped_prefix}
@@ -6,8 +7,10 @@ use Rattle.prefix_keys.specs.Text.{AddressOf, BlockOf}
 use Rattle.prefix_keys.specs.declared.block.Block.{Block}
 use Rattle.prefix_keys.specs.declared.version.Version.TheVariants.{V4, V6}
 use Rattle.flow_rows.specs.Elements.{RowView}
-use Rattle.flow_filter.specs.Condition.{Condition, FilterFault, Part, Range, RowTest, filter_of, given, in_range, is_malformed, meets_option}
-use Rattle.flow_filter.specs.Options.{FilterFaultKind, FilterOption, is_on_labels, kind_of, Bytes, DestinationAddress, DestinationPort, NoMemory, Packets, Protocol, SourceAddress, SourcePort}
+use Rattle.flow_filter.specs.Condition.{Condition, FilterFault, Part, Range, RowTest}
+use Rattle.flow_filter.specs.Condition.{filter_of, given, in_range, is_malformed, meets_option}
+use Rattle.flow_filter.specs.Options.{FilterFaultKind, FilterOption, is_on_labels, kind_of, Bytes, DestinationAddress}
+use Rattle.flow_filter.specs.Options.{DestinationPort, NoMemory, Packets, Protocol, SourceAddress, SourcePort}
 use Rattle.flow_filter.specs.declared.option.TheConstants.{ALL_OPTIONS}
 use Rattle.flow_filter.specs.declared.filter.FilterWords.{FilterWords}
 

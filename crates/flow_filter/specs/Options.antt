@@ -1,8 +1,12 @@
 use Rattle.std.specs.Prelude.{ℕ, Bool, not, true, false, List, codes}
 pub use Rattle.flow_filter.specs.declared.fault.FilterFaultKind.{FilterFaultKind}
-pub use Rattle.flow_filter.specs.declared.fault.FilterFaultKind.TheVariants.{BadBlock, BadNumberList, BadRange, NoMemory}
+pub use Rattle.flow_filter.specs.declared.fault.FilterFaultKind.TheVariants.{BadBlock, BadNumberList}
+pub use Rattle.flow_filter.specs.declared.fault.FilterFaultKind.TheVariants.{BadRange, NoMemory}
 pub use Rattle.flow_filter.specs.declared.option.FilterOption.{FilterOption}
-pub use Rattle.flow_filter.specs.declared.option.FilterOption.TheVariants.{AnyLabel, Bytes, DestinationAddress, DestinationLabel, DestinationPort, Packets, Protocol, SourceAddress, SourceLabel, SourcePort}
+pub use Rattle.flow_filter.specs.declared.option.FilterOption.TheVariants.{AnyLabel, Bytes, DestinationAddress}
+pub use Rattle.flow_filter.specs.declared.option.FilterOption.TheVariants.{DestinationLabel, DestinationPort}
+pub use Rattle.flow_filter.specs.declared.option.FilterOption.TheVariants.{Packets, Protocol, SourceAddress}
+pub use Rattle.flow_filter.specs.declared.option.FilterOption.TheVariants.{SourceLabel, SourcePort}
 
 -- The options of filters.
 

@@ -2,7 +2,8 @@ ghost use Rattle.std.specs.Prelude.{◌≡◌, ◌++◌, ◌∷◌, [], IfErr, I
 ghost use Rattle.std.specs.Option.{option_eq};
 ghost use Rattle.std.specs.Str.{bytes_eq};
 ghost use Rattle.label_lookup.specs.Labelling.{label_where, labelling_borrowed};
-ghost use Rattle.flow_filter.specs.Condition.{filter_of, is_malformed, meets_option, condition_needs_labels, row_passes};
+ghost use Rattle.flow_filter.specs.Condition.{filter_of, is_malformed, meets_option};
+ghost use Rattle.flow_filter.specs.Condition.{condition_needs_labels, row_passes};
 ghost use Rattle.flow_filter.specs.Filters.{IsFault, IsRefused, tested_number, option_texts};
 ghost use Rattle.flow_filter.specs.Options.{is_on_labels};
 

@@ -1,4 +1,5 @@
-use Rattle.std.specs.Prelude.{◌≡◌, ◌==◌, ◌&&◌, ◌||◌, suc, ℕ, Bool, true, false, List, [], Option, Result, Ok, Err, length, take, ◌⊎◌, ◌++◌, nat_lt, unwrap_or}
+use Rattle.std.specs.Prelude.{◌≡◌, ◌==◌, ◌&&◌, ◌||◌, suc, ℕ, Bool, true, false, List, [], Option}
+use Rattle.std.specs.Prelude.{Result, Ok, Err, length, take, ◌⊎◌, ◌++◌, nat_lt, unwrap_or}
 use Rattle.std.specs.Io.KnownBytes.{Appends, Consumes}
 pub use Rattle.flow_io.specs.declared.devices.LastCall.{LastCall}
 pub use Rattle.flow_io.specs.declared.devices.LastCall.TheVariants.{FailedFlush, Flush, Nothing, Write}

@@ -1,5 +1,6 @@
 ghost use Rattle.std.specs.Prelude.{◌≡◌, ◌≤◌, [], IfOk, length, suc};
-ghost use Rattle.flow_io.specs.Devices.{FailsOnErr, FailsOnShortWrite, InputView, OutputView, GivesCount, Takes, TakesCount, finds_end, flush_call, has_ended, Write};
+ghost use Rattle.flow_io.specs.Devices.{FailsOnErr, FailsOnShortWrite, InputView, OutputView, GivesCount};
+ghost use Rattle.flow_io.specs.Devices.{Takes, TakesCount, finds_end, flush_call, has_ended, Write};
 
 use thiserror::Error;
 

@@ -1,7 +1,9 @@
 //! Readers and writers in memory, for tests.
-ghost use Rattle.std.specs.Prelude.{◌≡◌, ◌-◌, ◌≤◌, ◌↔◌, false, [], IfOk, IsErr, drop, length, max, min, nat_eq, suc, unwrap_or, if◌then◌else◌};
+ghost use Rattle.std.specs.Prelude.{◌≡◌, ◌-◌, ◌≤◌, ◌↔◌, false, [], IfOk, IsErr, drop};
+ghost use Rattle.std.specs.Prelude.{length, max, min, nat_eq, suc, unwrap_or, if◌then◌else◌};
 ghost use Rattle.std.specs.Result.{result_unwrap_or};
-ghost use Rattle.flow_io.specs.Devices.{FailsOnErr, FailsOnShortWrite, GivesCount, Takes, TakesCount, finds_end, flush_call, has_ended, Nothing, Write};
+ghost use Rattle.flow_io.specs.Devices.{FailsOnErr, FailsOnShortWrite, GivesCount, Takes, TakesCount};
+ghost use Rattle.flow_io.specs.Devices.{finds_end, flush_call, has_ended, Nothing, Write};
 ghost use Rattle.flow_io.specs.Memory.{input_in, output_in};
 
 use crate::devices::{DeviceFault, Input, LastCall, Output};

@@ -1,4 +1,5 @@
-use Rattle.std.specs.Prelude.{ℕ, ◌==◌, ◌&&◌, ◌||◌, List, [], Option, Some, None, Result, Ok, Err, codes, if◌then◌else◌, is_none, length, ok_or, option_and_then, unwrap_or}
+use Rattle.std.specs.Prelude.{ℕ, ◌==◌, ◌&&◌, ◌||◌, List, [], Option, Some, None, Result, Ok, Err}
+use Rattle.std.specs.Prelude.{codes, if◌then◌else◌, is_none, length, ok_or, option_and_then, unwrap_or}
 use Rattle.std.specs.List.{after_first, before_first, list_any}
 use Rattle.std.specs.Str.{bytes_eq}
 use Rattle.prefix_keys.specs.Text.{decimal_number}
@@ -10,7 +11,8 @@ use Rattle.flow_uniq.specs.declared.field.Precision.TheVariants.{Day, Hour, Minu
 use Rattle.flow_uniq.specs.Key.{fields_need_labels}
 use Rattle.flow_uniq.specs.Times.{minutes_unit}
 use Rattle.clap.specs.Words.{Row, all_of, first_of}
-use Rattle.flow_files.specs.Answer.{AreAnswered, AreFaulty, AreParsed, condition_in_rows, fields_reading, is_given, sources_in_rows}
+use Rattle.flow_files.specs.Answer.{AreAnswered, AreFaulty, AreParsed, condition_in_rows}
+use Rattle.flow_files.specs.Answer.{fields_reading, is_given, sources_in_rows}
 use Rattle.flow_files.specs.declared.usage.UsageFault.{UsageFault}
 use Rattle.flow_files.specs.declared.usage.UsageFault.TheVariants.{Unit as BadUnit, KeysMissing, LabelNeedsMap}
 use Rattle.flow_files.specs.Sources.{Text}

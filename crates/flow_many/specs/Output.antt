@@ -1,4 +1,5 @@
-use Rattle.std.specs.Prelude.{ℕ, ◌&&◌, Bool, true, false, not, List, ◌∷◌, Option, Some, None, Result, Ok, if◌then◌else◌, map, nat_le, nat_lt, option_map}
+use Rattle.std.specs.Prelude.{ℕ, ◌&&◌, Bool, true, false, not, List, ◌∷◌, Option, Some, None}
+use Rattle.std.specs.Prelude.{Result, Ok, if◌then◌else◌, map, nat_le, nat_lt, option_map}
 use Rattle.std.specs.List.{flat_map, list_any}
 use Rattle.pmap_model.specs.Steps.{◌>>=◌}
 use Rattle.ipfix_read.specs.Message.{MessageView}

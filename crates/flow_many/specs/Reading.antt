@@ -1,4 +1,5 @@
-use Rattle.std.specs.Prelude.{◌≡◌, ◌≤◌, ◌+◌, ◌*◌, ◌++◌, ◌∷◌, ◌&&◌, ℕ, false, true, List, [], Option, None, Result, Ok, Err, decimal, length, map, option_map}
+use Rattle.std.specs.Prelude.{◌≡◌, ◌≤◌, ◌+◌, ◌*◌, ◌++◌, ◌∷◌, ◌&&◌, ℕ, false, true, List, []}
+use Rattle.std.specs.Prelude.{Option, None, Result, Ok, Err, decimal, length, map, option_map}
 use Rattle.std.specs.List.{flat_map, list_any}
 use Rattle.flow_io.specs.Devices.{InputView}
 use Rattle.ipfix_read.specs.Messages.{StopsReading}

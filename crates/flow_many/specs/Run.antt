@@ -1,4 +1,5 @@
-use Rattle.std.specs.Prelude.{◌≡◌, ◌+◌, ◌++◌, ◌∷◌, ◌⊎◌, ⊤, List, [], Option, Some, None, Result, Ok, Err, false, true, length}
+use Rattle.std.specs.Prelude.{◌≡◌, ◌+◌, ◌++◌, ◌∷◌, ◌⊎◌, ⊤, List, [], Option}
+use Rattle.std.specs.Prelude.{Some, None, Result, Ok, Err, false, true, length}
 use Rattle.flow_io.specs.Devices.{InputView, OutputView, ReadsInput, StopsWriting, WritesWhole}
 use Rattle.ipfix_read.specs.Messages.{StopsReading}
 use Rattle.label_lookup.specs.Labelling.{Labelling}

@@ -5,7 +5,8 @@ ghost use Rattle.flow_uniq.specs.Key.{with_unit};
 ghost use Rattle.flow_uniq.specs.declared.fault.KeyFault.TheVariants.{FieldRepeated};
 ghost use Rattle.flow_files.specs.Answer.{IsOwnFault, IsUnlessMemory};
 ghost use Rattle.flow_files.specs.declared.usage.UsageFault.TheVariants.{Key};
-ghost use Rattle.flow_many.specs.Answer.{IsAnswer, answer_of, answer_of_sum, files_in_rows, keys_in_rows, minutes_named, unit_named};
+ghost use Rattle.flow_many.specs.Answer.{IsAnswer, answer_of, answer_of_sum, files_in_rows};
+ghost use Rattle.flow_many.specs.Answer.{keys_in_rows, minutes_named, unit_named};
 ghost use Rattle.flow_many.specs.Definition.{many_app};
 ghost use Rattle.flow_many.specs.Request.{fields_in, request_of, unit_in};
 

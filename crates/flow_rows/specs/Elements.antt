@@ -1,4 +1,5 @@
-use Rattle.std.specs.Prelude.{ℕ, List, length, Option, Some, None, option_map, find, ◌==◌, ◌++◌, option_and_then, unwrap_or, if◌then◌else◌}
+use Rattle.std.specs.Prelude.{ℕ, List, length, Option, Some, None, option_map, find}
+use Rattle.std.specs.Prelude.{◌==◌, ◌++◌, option_and_then, unwrap_or, if◌then◌else◌}
 use Rattle.std.specs.Option.{option_or, option_to_list}
 use Rattle.byteorder.specs.Endian.{big_number}
 use Rattle.prefix_keys.specs.declared.version.Version.{Version}

@@ -2,7 +2,8 @@
 ghost use Rattle.std.specs.Prelude.{◌≡◌, ◌++◌, List, count_by};
 ghost use Rattle.ipfix_read.specs.Message.{MessageView};
 ghost use Rattle.flow_rows.specs.Counts.{counts_of, has_no_bytes, rows_of_messages};
-ghost use Rattle.flow_rows.specs.Laws.{JoinedFileAddsUp, NoneSkipped, summed_counts, summed_message_counts, sums, sums_of_lines};
+ghost use Rattle.flow_rows.specs.Laws.{JoinedFileAddsUp, NoneSkipped, summed_counts};
+ghost use Rattle.flow_rows.specs.Laws.{summed_message_counts, sums, sums_of_lines};
 
 /// The counts of messages are the sums of those of the first messages and of the others, and so of those of each
 /// message. The rows of messages are those of the first messages followed by those of the others.

@@ -1,5 +1,6 @@
 //! The rows of a message, one after the other.
-ghost use Rattle.std.specs.Prelude.{◌≡◌, ◌≤◌, [], IfNone, IfSome, None, count_by, false, length, option_map, true, unwrap_or};
+ghost use Rattle.std.specs.Prelude.{◌≡◌, ◌≤◌, [], IfNone, IfSome, None, count_by};
+ghost use Rattle.std.specs.Prelude.{false, length, option_map, true, unwrap_or};
 ghost use Rattle.std.specs.Iterator.{YieldsFirst, item_count};
 ghost use Rattle.std.specs.List.{flat_map};
 ghost use Rattle.flow_rows.specs.Counts.{has_no_bytes, records_in, rows_of_sets};

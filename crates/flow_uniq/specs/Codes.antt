@@ -1,4 +1,6 @@
-use Rattle.std.specs.Prelude.{◌≡◌, ℕ, zero, suc, ◌^◌, ◌<◌, ◌==◌, ◌++◌, ◌+◌, ◌-◌, ◌*◌, ◌/◌, ◌%◌, Bool, List, [], ◌∷◌, Option, Some, None, IsTrue, length, take, drop, nat_lt, option_and_then, option_copied, option_map, position, unwrap_or, if◌then◌else◌}
+use Rattle.std.specs.Prelude.{◌≡◌, ℕ, zero, suc, ◌^◌, ◌<◌, ◌==◌, ◌++◌, ◌+◌, ◌-◌, ◌*◌, ◌/◌, ◌%◌, Bool, List}
+use Rattle.std.specs.Prelude.{[], ◌∷◌, Option, Some, None, IsTrue, length, take, drop, nat_lt}
+use Rattle.std.specs.Prelude.{option_and_then, option_copied, option_map, position, unwrap_or, if◌then◌else◌}
 use Rattle.std.specs.Coded.{Coded-set, Unit-prop, coded_bool, coded_list, coded_ℕ, le_prop}
 use Rattle.std.specs.Int.{w16, w32, w64, from_be_bytes, to_be_bytes}
 use Rattle.std.specs.List.{AllByRecursion, AllByRecursion-prop, flat_map}
@@ -9,7 +11,8 @@ use Rattle.prefix_keys.specs.declared.version.Version.TheVariants.{V4, V6}
 use Rattle.pmap_model.specs.Label.{is_label}
 use Rattle.flow_uniq.specs.declared.codec.KeyPart.{KeyPart}
 use Rattle.flow_uniq.specs.declared.codec.KeyPart.TheVariants as part
-use Rattle.flow_uniq.specs.Key.{Key, KeyPartModel, AddressPart, NumberPart, LabelPart, TimePart, Precision, Day, Hour, Minute}
+use Rattle.flow_uniq.specs.Key.{Key, KeyPartModel, AddressPart, NumberPart}
+use Rattle.flow_uniq.specs.Key.{LabelPart, TimePart, Precision, Day, Hour, Minute}
 use Rattle.flow_uniq.specs.Times.{precision_number}
 
 -- How keys are stored: as bytes that are in the order of keys.

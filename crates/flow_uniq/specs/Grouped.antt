@@ -1,4 +1,5 @@
-use Rattle.std.specs.Prelude.{◌≡◌, ◌<◌, ◌↔◌, ℕ, Bool, true, List, [], ◌∷◌, Option, Contains, filter, if◌then◌else◌, length, map, not, slice_index_or, sum_by}
+use Rattle.std.specs.Prelude.{◌≡◌, ◌<◌, ◌↔◌, ℕ, Bool, true, List, [], ◌∷◌, Option, Contains}
+use Rattle.std.specs.Prelude.{filter, if◌then◌else◌, length, map, not, slice_index_or, sum_by}
 use Rattle.std.specs.Cmp.Lexicographic.{slice_cmp}
 use Rattle.std.specs.List.{flat_map}
 use Rattle.std.specs.List.Sorted.{IsPermutation}
@@ -12,7 +13,9 @@ use Rattle.pmap_model.specs.MapModel.{Label}
 use Rattle.pmap_model.specs.Sorting.{in_order}
 use Rattle.flow_rows.specs.Elements.{RowView}
 use Rattle.flow_uniq.specs.declared.field.KeyField.{KeyField}
-use Rattle.flow_uniq.specs.declared.field.KeyField.TheVariants.{SourceAddress, DestinationAddress, SourcePort, DestinationPort, Protocol, Flags, SourceLabel, DestinationLabel, Start}
+use Rattle.flow_uniq.specs.declared.field.KeyField.TheVariants.{SourceAddress, DestinationAddress}
+use Rattle.flow_uniq.specs.declared.field.KeyField.TheVariants.{SourcePort, DestinationPort, Protocol}
+use Rattle.flow_uniq.specs.declared.field.KeyField.TheVariants.{Flags, SourceLabel, DestinationLabel, Start}
 use Rattle.flow_uniq.specs.Key.{key_of}
 use Rattle.flow_uniq.specs.Times.{unit_start}
 use Rattle.flow_uniq.specs.Groups.{GroupModel}

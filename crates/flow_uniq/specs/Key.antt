@@ -1,4 +1,5 @@
-use Rattle.std.specs.Prelude.{ℕ, ◌==◌, Bool, true, false, List, [], ◌∷◌, ◌++◌, Option, Result, Err, codes, find, filter_map, fold, is_none, ok_or, if◌then◌else◌, Some, None, map}
+use Rattle.std.specs.Prelude.{ℕ, ◌==◌, Bool, true, false, List, [], ◌∷◌, ◌++◌, Option, Result, Err, codes}
+use Rattle.std.specs.Prelude.{find, filter_map, fold, is_none, ok_or, if◌then◌else◌, Some, None, map}
 use Rattle.std.specs.List.{list_any, slice_split}
 use Rattle.std.specs.Option.{option_map_or}
 use Rattle.std.specs.Str.{bytes_eq}
@@ -12,7 +13,9 @@ pub use Rattle.flow_uniq.specs.declared.field.TimeUnit.{TimeUnit}
 pub use Rattle.flow_uniq.specs.declared.field.Precision.{Precision}
 pub use Rattle.flow_uniq.specs.declared.field.Precision.TheVariants.{Day, Hour, Minute}
 use Rattle.flow_uniq.specs.Times.{precision_name, precision_number, unit_start}
-use Rattle.flow_uniq.specs.declared.field.KeyField.TheVariants.{SourceAddress, DestinationAddress, SourcePort, DestinationPort, Protocol, Flags, SourceLabel, DestinationLabel, Start}
+use Rattle.flow_uniq.specs.declared.field.KeyField.TheVariants.{SourceAddress, DestinationAddress}
+use Rattle.flow_uniq.specs.declared.field.KeyField.TheVariants.{SourcePort, DestinationPort, Protocol}
+use Rattle.flow_uniq.specs.declared.field.KeyField.TheVariants.{Flags, SourceLabel, DestinationLabel, Start}
 pub use Rattle.flow_uniq.specs.declared.fault.KeyFault.{KeyFault}
 pub use Rattle.flow_uniq.specs.declared.fault.KeyFault.TheVariants.{BadField, FieldRepeated, NoMemory}
 

@@ -1,12 +1,14 @@
 //! Keys as bytes, which are in the order of the keys. The bytes that are written for the key of a row are read back as
 //! this key, part by part.
-ghost use Rattle.std.specs.Prelude.{bytes_eq, ◌≡◌, ◌++◌, ◌∷◌, [], IfNone, IfOk, IfSome, IsTrue, OnOk, option_copied, option_map};
+ghost use Rattle.std.specs.Prelude.{bytes_eq, ◌≡◌, ◌++◌, ◌∷◌, [], IfNone, IfOk};
+ghost use Rattle.std.specs.Prelude.{IfSome, IsTrue, OnOk, option_copied, option_map};
 ghost use Rattle.std.specs.Cmp.Lexicographic.{slice_cmp};
 ghost use Rattle.std.specs.Ordering.{nat_cmp};
 ghost use Rattle.label_lookup.specs.Labelling.{label_where, labelling_borrowed};
 ghost use Rattle.flow_uniq.specs.Key.{AddressPart, key_of, key_part, part_numbers};
 ghost use Rattle.flow_uniq.specs.Times.{precision_number};
-ghost use Rattle.flow_uniq.specs.Codes.{IsCode, IsCode-prop, IsSmall, first_part, front_label, key_code, key_in, part_code, part_model, precision_at};
+ghost use Rattle.flow_uniq.specs.Codes.{IsCode, IsCode-prop, IsSmall, first_part, front_label};
+ghost use Rattle.flow_uniq.specs.Codes.{key_code, key_in, part_code, part_model, precision_at};
 
 use crate::field::{KeyField, Precision};
 use flow_rows::Row;

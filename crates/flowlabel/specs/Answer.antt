@@ -1,4 +1,5 @@
-use Rattle.std.specs.Prelude.{◌≡◌, ◌==◌, ◌&&◌, ◌||◌, ◌∷◌, [], Bool, not, true, false, List, codes, map, Option, None, Result, Ok, Err, if◌then◌else◌, is_none, ok_or}
+use Rattle.std.specs.Prelude.{◌≡◌, ◌==◌, ◌&&◌, ◌||◌, ◌∷◌, [], Bool, not, true, false, List, codes}
+use Rattle.std.specs.Prelude.{map, Option, None, Result, Ok, Err, if◌then◌else◌, is_none, ok_or}
 use Rattle.std.specs.Str.{bytes_eq}
 use Rattle.prefix_keys.specs.Text.{address_of}
 use Rattle.pmap_model.specs.Steps.{◌>>=◌}
@@ -6,10 +7,12 @@ use Rattle.flow_filter.specs.Condition.{condition_needs_labels}
 use Rattle.flow_uniq.specs.Key.{fields_need_labels}
 use Rattle.clap.specs.Words.{Row}
 use Rattle.flowlabel.specs.Definition.{flowlabel_app}
-use Rattle.flowlabel.specs.Request.{Command, Request, Shrunk, request_of, cat, check, info, label, recert, rows, shrink, uniq}
+use Rattle.flowlabel.specs.Request.{Command, Request, Shrunk, request_of, cat}
+use Rattle.flowlabel.specs.Request.{check, info, label, recert, rows, shrink, uniq}
 use Rattle.flow_files.specs.Sources.{FromMap, LabelSource, Text}
 use Rattle.flowlabel.specs.declared.command.Shrunk.TheVariants as shrunk
-use Rattle.flow_files.specs.Answer.{AreAnswered, AreFaulty, AreParsed, IsUnlessMemory, condition_in_rows, fields_in_rows, is_given, sources_in_rows, text_in_rows}
+use Rattle.flow_files.specs.Answer.{AreAnswered, AreFaulty, AreParsed, IsUnlessMemory, condition_in_rows}
+use Rattle.flow_files.specs.Answer.{fields_in_rows, is_given, sources_in_rows, text_in_rows}
 use Rattle.flow_files.specs.declared.usage.UsageFault.TheVariants.{BadAddress, CompactAlone, LabelNeedsMap, MapMissing}
 use Rattle.flow_files.specs.declared.usage.UsageFault.{UsageFault}
 

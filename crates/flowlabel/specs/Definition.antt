@@ -1,6 +1,7 @@
 use Rattle.std.specs.Prelude.{List, [], ◌∷◌, ◌++◌, codes}
 use Rattle.clap.specs.Words.{App, Rule, Text, new_app}
-use Rattle.flow_files.specs.Definition.{flag_rule, leaf, needed_rule, as_program, report_rules, source_rules, with_leaves, word_rule}
+use Rattle.flow_files.specs.Definition.{flag_rule, leaf, needed_rule, as_program}
+use Rattle.flow_files.specs.Definition.{report_rules, source_rules, with_leaves, word_rule}
 
 -- The command line as clap reads its definition: each subcommand with its options and words.
 

@@ -1,4 +1,6 @@
-use Rattle.std.specs.Prelude.{◌≡◌, ◌≢◌, ◌≤◌, ◌<◌, ◌+◌, ◌^◌, ◌⊎◌, ◌&&◌, ◌∷◌, ◌++◌, [], ℕ, All, Contains, IsTrue, List, Bool, Option, None, Some, Ok, filter, is_some, length, map, nat_le, nat_lt, option_map, slice_get, unwrap_or}
+use Rattle.std.specs.Prelude.{◌≡◌, ◌≢◌, ◌≤◌, ◌<◌, ◌+◌, ◌^◌, ◌⊎◌, ◌&&◌, ◌∷◌, ◌++◌, [], ℕ, All}
+use Rattle.std.specs.Prelude.{Contains, IsTrue, List, Bool, Option, None, Some, Ok, filter, is_some}
+use Rattle.std.specs.Prelude.{length, map, nat_le, nat_lt, option_map, slice_get, unwrap_or}
 use Rattle.std.specs.Borrow.{Bor}
 use Rattle.std.specs.List.{last_or}
 use Rattle.prefix_keys.specs.Block.{width_of}

@@ -1,4 +1,5 @@
-use Rattle.std.specs.Prelude.{ℕ, List, [], ◌∷◌, ◌++◌, Option, Result, Ok, Err, is_some, map, unwrap_or, codes, decimal, length}
+use Rattle.std.specs.Prelude.{ℕ, List, [], ◌∷◌, ◌++◌, Option, Result, Ok, Err}
+use Rattle.std.specs.Prelude.{is_some, map, unwrap_or, codes, decimal, length}
 use Rattle.std.specs.Option.{option_map_or}
 use Rattle.prefix_keys.specs.Text.{AddressOf}
 use Rattle.pmap_model.specs.ListModel.{ListModel}
@@ -21,7 +22,9 @@ use Rattle.pmap_stretches.specs.RunsText.{IsRunsText}
 use Rattle.pmap_print.specs.Table.{Line, table_text}
 use Rattle.label_lookup.specs.Labelling.{Labelling, label_by}
 pub use Rattle.flow_files.specs.declared.bytes_fault.BytesFault.{BytesFault}
-use Rattle.flow_files.specs.declared.bytes_fault.BytesFault.TheVariants.{Map as InMap, List as InList, Certificate as InCertificate, Check as InCheck, Flows as InFlows}
+use Rattle.flow_files.specs.declared.bytes_fault.BytesFault.TheVariants.{Map as InMap, List as InList}
+use Rattle.flow_files.specs.declared.bytes_fault.BytesFault.TheVariants.{Certificate as InCertificate}
+use Rattle.flow_files.specs.declared.bytes_fault.BytesFault.TheVariants.{Check as InCheck, Flows as InFlows}
 use Rattle.flow_files.specs.declared.by_file.ByFile.{ByFile}
 use Rattle.flowlabel.specs.Request.{Cat, Check, Command, Info, Label, Recert, Rows, Shrink, Shrunk, Uniq}
 use Rattle.flow_files.specs.Sources.{Text}

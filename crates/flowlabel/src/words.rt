@@ -4,7 +4,8 @@ ghost use Rattle.flow_files.specs.Sources.{Text};
 ghost use Rattle.flow_files.specs.Answer.{IsOwnFault, IsUnlessMemory};
 ghost use Rattle.flowlabel.specs.Definition.{flowlabel_app};
 ghost use Rattle.flowlabel.specs.Request.{IsProper, request_of};
-ghost use Rattle.flowlabel.specs.Answer.{HaveOneAnswer, IsAnswer, LinesHaveAnswers, answer_of, answer_of_cat, answer_of_label, answer_of_rows, answer_of_shrink, answer_of_uniq};
+ghost use Rattle.flowlabel.specs.Answer.{HaveOneAnswer, IsAnswer, LinesHaveAnswers, answer_of, answer_of_cat};
+ghost use Rattle.flowlabel.specs.Answer.{answer_of_label, answer_of_rows, answer_of_shrink, answer_of_uniq};
 
 use crate::command::{Command, Shrunk};
 use crate::definition::definition;

@@ -1,5 +1,6 @@
 -- Laws about the definitions.
-use Rattle.std.specs.Prelude.{◌≡◌, ℕ, ◌+◌, ◌-◌, ◌≤◌, Bool, false, not, nat_lt, List, [], ◌∷◌, ◌++◌, length, Option, Ok, Result}
+use Rattle.std.specs.Prelude.{◌≡◌, ℕ, ◌+◌, ◌-◌, ◌≤◌, Bool, false, not, nat_lt}
+use Rattle.std.specs.Prelude.{List, [], ◌∷◌, ◌++◌, length, Option, Ok, Result}
 use Rattle.std.specs.List.{All, flat_map, list_any}
 use Rattle.std.specs.Result.{result_map_both}
 use Rattle.flow_io.specs.Devices.{InputView, ReadsInput, has_ended}
@@ -7,7 +8,8 @@ use Rattle.ipfix_templates.specs.InForce.{InForce}
 use Rattle.ipfix_templates.specs.Reading.{after_items}
 use Rattle.ipfix_read.specs.Message.{ReadFault, MessageView, after_message, message_next}
 use Rattle.ipfix_read.specs.Set.{Set, Skipped}
-use Rattle.ipfix_read.specs.Messages.{IsAt, ProgressView, file_reading, messages_from, messages_in, placed_from, AnswersNext, IsReadTo, JoinsFile}
+use Rattle.ipfix_read.specs.Messages.{IsAt, ProgressView, file_reading, messages_from}
+use Rattle.ipfix_read.specs.Messages.{messages_in, placed_from, AnswersNext, IsReadTo, JoinsFile}
 
 -- the first message, and the rest read after it, are the whole, whatever came before
 abbrev pub FirstMessageAndRest : Type 0

@@ -1,5 +1,6 @@
 -- Messages (RFC 7011 section 3.1).
-use Rattle.std.specs.Prelude.{◌≡◌, ℕ, ◌+◌, ◌≤◌, List, length, take, drop, fold, sum_by, Option, Some, None, Result, Err, nat_lt, not, ◌==◌, if◌then◌else◌}
+use Rattle.std.specs.Prelude.{◌≡◌, ℕ, ◌+◌, ◌≤◌, List, length, take, drop, fold, sum_by, Option}
+use Rattle.std.specs.Prelude.{Some, None, Result, Err, nat_lt, not, ◌==◌, if◌then◌else◌}
 use Rattle.std.specs.Option.{option_map_or, option_or}
 use Rattle.std.specs.Result.{result_map_both}
 use Rattle.byteorder.specs.Endian.{big_number}
@@ -7,7 +8,8 @@ use Rattle.ipfix_templates.specs.InForce.{InForce}
 use Rattle.ipfix_read.specs.Set.{Set, Templates, Values, Skipped, written_length, sets_reading, after_set}
 pub use Rattle.ipfix_read.specs.declared.fault.ReadFault.{ReadFault}
 pub use Rattle.ipfix_read.specs.declared.fault.ReadFaultKind.{ReadFaultKind}
-use Rattle.ipfix_read.specs.declared.fault.ReadFaultKind.TheVariants.{TruncatedHeader, BadVersion, BadMessageLength, TruncatedMessage, TooManyMessages}
+use Rattle.ipfix_read.specs.declared.fault.ReadFaultKind.TheVariants.{TruncatedHeader, BadVersion, BadMessageLength}
+use Rattle.ipfix_read.specs.declared.fault.ReadFaultKind.TheVariants.{TruncatedMessage, TooManyMessages}
 
 -- a message, without how it is stored
 pub record MessageView : Type 0 where

@@ -1,4 +1,5 @@
-use Rattle.std.specs.Prelude.{◌≡◌, ℕ, ◌+◌, ◌<◌, List, [], ◌++◌, length, None, ◌⊎◌, Bool, true, false, ◌∷◌, Option, Some, Result, Ok, Err, IfErr, ◌==◌, fold, map}
+use Rattle.std.specs.Prelude.{◌≡◌, ℕ, ◌+◌, ◌<◌, List, [], ◌++◌, length, None, ◌⊎◌, Bool, true}
+use Rattle.std.specs.Prelude.{false, ◌∷◌, Option, Some, Result, Ok, Err, IfErr, ◌==◌, fold, map}
 use Rattle.std.specs.Result.{result_map_both}
 use Rattle.flow_io.specs.Devices.{InputView, MayFollow, ReadsInput, Gives, has_ended}
 use Rattle.ipfix_templates.specs.Reading.{after_items, items_from}
@@ -8,7 +9,8 @@ use Rattle.ipfix_read.specs.Message.{ReadFault, MessageView, header_fault, messa
 use Rattle.ipfix_read.specs.declared.fault.ReadFaultKind.TheVariants.{ReadFault as Unread}
 use Rattle.ipfix_read.specs.declared.progress.State.{State}
 pub use Rattle.ipfix_read.specs.declared.progress.State.TheVariants.{Ended, Failed, Going}
-use Rattle.ipfix_read.specs.Fault.{out_of_memory, read_fault, is_of_calls, is_of_reader, TruncatedHeader, TruncatedMessage}
+use Rattle.ipfix_read.specs.Fault.{out_of_memory, read_fault, is_of_calls}
+use Rattle.ipfix_read.specs.Fault.{is_of_reader, TruncatedHeader, TruncatedMessage}
 
 -- Files (RFC 5655): consecutive messages.
 

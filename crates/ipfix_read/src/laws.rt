@@ -1,5 +1,6 @@
 //! Laws about reading Files.
-ghost use Rattle.ipfix_read.specs.Laws.{CallsJoinFile, CallsStart, FileAfterFile, FirstMessageAndRest, JoinedFileIsRead, PlacedAreMessages};
+ghost use Rattle.ipfix_read.specs.Laws.{CallsJoinFile, CallsStart, FileAfterFile};
+ghost use Rattle.ipfix_read.specs.Laws.{FirstMessageAndRest, JoinedFileIsRead, PlacedAreMessages};
 
 /// A first message, followed by the rest read after it, is the whole, under any templates in force, after any number of
 /// messages and at any offset.

@@ -4,7 +4,8 @@ ghost use Rattle.std.specs.Result.{result_map_both};
 ghost use Rattle.ipfix_templates.specs.InForce.{template_at};
 ghost use Rattle.ipfix_read.specs.Fault.{Reads, is_of_calls};
 ghost use Rattle.ipfix_read.specs.Messages.{file_reading};
-ghost use Rattle.ipfix_read.specs.Message.{own_fault, after_message, message_next, message_size, whole_reading, HasHeader};
+ghost use Rattle.ipfix_read.specs.Message.{own_fault, after_message, message_next};
+ghost use Rattle.ipfix_read.specs.Message.{message_size, whole_reading, HasHeader};
 ghost use Rattle.ipfix_read.specs.Set.{written_length, ReadsUnder};
 
 use crate::fault::{ReadFault, ReadFaultKind};

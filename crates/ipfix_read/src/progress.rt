@@ -1,11 +1,13 @@
 //! Reading a File message by message.
-ghost use Rattle.std.specs.Prelude.{◌≡◌, ◌<◌, ◌≤◌, ◌+◌, Ok, Err, None, false, IfOk, IfSome, MatchResult, OnSome, length, option_map, vec_len};
+ghost use Rattle.std.specs.Prelude.{◌≡◌, ◌<◌, ◌≤◌, ◌+◌, Ok, Err, None, false, IfOk, IfSome};
+ghost use Rattle.std.specs.Prelude.{MatchResult, OnSome, length, option_map, vec_len};
 ghost use Rattle.flow_io.specs.Devices.{InputView, ReadsInput, has_ended};
 ghost use Rattle.std.specs.Result.{result_map_both};
 ghost use Rattle.ipfix_templates.specs.InForce.{no_templates};
 ghost use Rattle.ipfix_read.specs.Fault.{failed_before, is_of_reader};
 ghost use Rattle.ipfix_read.specs.Message.{HasHeader};
-ghost use Rattle.ipfix_read.specs.Messages.{Going, Ended, Failed, AnswersNext, Gathers, ProgressView, IsAt, is_read_fault};
+ghost use Rattle.ipfix_read.specs.Messages.{Going, Ended, Failed, AnswersNext, Gathers};
+ghost use Rattle.ipfix_read.specs.Messages.{ProgressView, IsAt, is_read_fault};
 
 use crate::fault::{ReadFault, ReadFaultKind};
 use crate::message::{MESSAGE_HEADER, Message, header_length, whole_message};

@@ -1,6 +1,7 @@
 -- Where the numbers of rows are in records with the same fields. This is private. A record's values alone specify its
 -- rows, and callers need not read this file.
-use Rattle.std.specs.Prelude.{ℕ, ◌+◌, List, [], ◌∷◌, Bool, true, false, not, Option, Some, None, option_map, ◌==◌, ◌&&◌, if◌then◌else◌}
+use Rattle.std.specs.Prelude.{ℕ, ◌+◌, List, [], ◌∷◌, Bool, true, false, not, Option}
+use Rattle.std.specs.Prelude.{Some, None, option_map, ◌==◌, ◌&&◌, if◌then◌else◌}
 use Rattle.ipfix_templates.specs.Field.{FieldView, is_variable}
 use Rattle.ipfix_templates.specs.Elements.{back, forward, is_usable}
 use Rattle.ipfix_templates.specs.Template.{Flow, Kind, Options}

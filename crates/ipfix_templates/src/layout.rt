@@ -1,7 +1,8 @@
 //! The places of the numbers of flow rows in the records of a template, determined once.
 ghost use Rattle.std.specs.Prelude.{◌≡◌, ◌≤◌, ◌==◌, find, length};
 ghost use Rattle.ipfix_templates.specs.Elements.{back, fits, forward, is_usable};
-ghost use Rattle.ipfix_templates.specs.Layout.{first_places, flow_layout, is_there, place_of_element, place_or, places_between, second_places};
+ghost use Rattle.ipfix_templates.specs.Layout.{first_places, flow_layout, is_there, place_of_element};
+ghost use Rattle.ipfix_templates.specs.Layout.{place_or, places_between, second_places};
 
 use crate::field::Field;
 

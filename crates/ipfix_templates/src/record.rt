@@ -1,5 +1,6 @@
 ghost use Rattle.std.specs.Prelude.{◌≡◌, ◌<◌, ◌≤◌, length, IfErr, IfOk, IfSome, Ok, option_map};
-ghost use Rattle.ipfix_templates.specs.Reading.{IsFaultWithin, with_offset, definition_at, field_at, fields_at, template_record_at};
+ghost use Rattle.ipfix_templates.specs.Reading.{IsFaultWithin, with_offset, definition_at};
+ghost use Rattle.ipfix_templates.specs.Reading.{field_at, fields_at, template_record_at};
 
 use crate::event::TemplateEvent;
 use crate::fault::{TemplateFault, TemplateFaultKind};

@@ -21,7 +21,8 @@ pub struct TemplateTable {
 impl TemplateTable {
     ghost use Rattle.std.specs.Prelude.{◌≡◌, None, Some, OnOk, OnErr};
     ghost use Rattle.std.specs.Option.{option_copied};
-    ghost use Rattle.ipfix_templates.specs.InForce.{Define, Withdraw, WithdrawAll, after_event, changed_at, no_templates, template_at};
+    ghost use Rattle.ipfix_templates.specs.InForce.{Define, Withdraw, WithdrawAll, after_event};
+    ghost use Rattle.ipfix_templates.specs.InForce.{changed_at, no_templates, template_at};
     ghost use Rattle.ipfix_templates.specs.Table.{stored};
 
     /// Returns an empty table.

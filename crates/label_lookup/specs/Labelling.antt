@@ -1,4 +1,5 @@
-use Rattle.std.specs.Prelude.{◌^◌, ℕ, Option, Some, None, nat_lt, option_and_then, option_map, if◌then◌else◌, ◌≤◌, List, All, ◌<◌, length, slice_get, ◌≡◌, ◌+◌, ◌-◌, ◌*◌, slice_index}
+use Rattle.std.specs.Prelude.{◌^◌, ℕ, Option, Some, None, nat_lt, option_and_then, option_map, if◌then◌else◌}
+use Rattle.std.specs.Prelude.{◌≤◌, List, All, ◌<◌, length, slice_get, ◌≡◌, ◌+◌, ◌-◌, ◌*◌, slice_index}
 use Rattle.std.specs.Borrow.{Bor}
 use Rattle.std.specs.Option.{ForSome}
 use Rattle.prefix_keys.specs.Conversion.{converted}

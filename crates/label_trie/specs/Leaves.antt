@@ -1,4 +1,5 @@
-use Rattle.std.specs.Prelude.{ℕ, zero, suc, ◌+◌, ◌-◌, ◌*◌, ◌==◌, Bool, List, [], ◌∷◌, ◌++◌, Option, option_map, if◌then◌else◌}
+use Rattle.std.specs.Prelude.{ℕ, zero, suc, ◌+◌, ◌-◌, ◌*◌, ◌==◌, Bool, List}
+use Rattle.std.specs.Prelude.{[], ◌∷◌, ◌++◌, Option, option_map, if◌then◌else◌}
 use Rattle.prefix_keys.specs.Block.{first_of, last_of, width_of}
 use Rattle.pmap_stretches.specs.Stretches.{StretchesModel, count_begun, label_held}
 use Rattle.pmap_model.specs.declared.label.LabelId.{LabelId}

@@ -1,4 +1,5 @@
-use Rattle.std.specs.Prelude.{◌≡◌, ℕ, suc, ◌+◌, ◌-◌, ◌/◌, ◌^◌, ◌<◌, ◌≤◌, ◌==◌, Bool, List, [], ◌∷◌, Option, Some, None, length, filter, find, slice_get, option_and_then, option_map}
+use Rattle.std.specs.Prelude.{◌≡◌, ℕ, suc, ◌+◌, ◌-◌, ◌/◌, ◌^◌, ◌<◌, ◌≤◌, ◌==◌, Bool, List, [], ◌∷◌, Option}
+use Rattle.std.specs.Prelude.{Some, None, length, filter, find, slice_get, option_and_then, option_map}
 use Rattle.std.specs.Option.{ForSome}
 use Rattle.prefix_keys.specs.Block.{block_number, first_of, last_of, width_of}
 use Rattle.prefix_keys.specs.declared.version.Version.{Version}

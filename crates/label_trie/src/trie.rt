@@ -1,4 +1,5 @@
-ghost use Rattle.std.specs.Prelude.{◌≡◌, ℕ, ◌+◌, ◌*◌, ◌^◌, ◌<◌, ◌≤◌, ◌++◌, Some, All, IfOk, OnOk, length, map, option_map, option_and_then, slice_get};
+ghost use Rattle.std.specs.Prelude.{◌≡◌, ℕ, ◌+◌, ◌*◌, ◌^◌, ◌<◌, ◌≤◌, ◌++◌, Some, All, IfOk};
+ghost use Rattle.std.specs.Prelude.{OnOk, length, map, option_map, option_and_then, slice_get};
 ghost use Rattle.prefix_keys.specs.Block.{width_of};
 ghost use Rattle.pmap_model.specs.ListModel.{list_label};
 ghost use Rattle.pmap_model.specs.PrefixList.{list_of};
@@ -9,7 +10,8 @@ ghost use Rattle.label_trie.specs.Leaves.{leaves_in, leaves_of};
 ghost use Rattle.label_trie.specs.Nodes.{stored_of};
 ghost use Rattle.label_trie.specs.Parts.{IsMet, IsRoot};
 ghost use Rattle.label_trie.specs.Stored.{IsNodeAt, IsStoredAs};
-ghost use Rattle.label_trie.specs.TrieModel.{model_of, IsCut, IsLeafSettledByList, IsNode, IsSettledLeaf, IsUndivided, label_in};
+ghost use Rattle.label_trie.specs.TrieModel.{model_of, IsCut, IsLeafSettledByList, IsNode};
+ghost use Rattle.label_trie.specs.TrieModel.{IsSettledLeaf, IsUndivided, label_in};
 
 use crate::cursor::{Cursor, Parts, cursor_at};
 use crate::leaf::Leaf;

@@ -1,10 +1,13 @@
-use Rattle.std.specs.Prelude.{◌≡◌, ℕ, suc, ◌+◌, ◌*◌, ◌<◌, ◌≤◌, Bool, List, [], ◌∷◌, Some, filter, length, IsTrue, false, ◌++◌, Option, None, find, slice_index_or, unwrap_or, if◌then◌else◌, All, ◌-◌, ◌%◌, ◌^◌, ◌&&◌, ◌||◌, ◌==◌, nat_lt, not}
+use Rattle.std.specs.Prelude.{◌≡◌, ℕ, suc, ◌+◌, ◌*◌, ◌<◌, ◌≤◌, Bool, List, [], ◌∷◌, Some, filter, length}
+use Rattle.std.specs.Prelude.{IsTrue, false, ◌++◌, Option, None, find, slice_index_or, unwrap_or}
+use Rattle.std.specs.Prelude.{if◌then◌else◌, All, ◌-◌, ◌%◌, ◌^◌, ◌&&◌, ◌||◌, ◌==◌, nat_lt, not}
 use Rattle.std.specs.List.{AllByRecursion}
 use Rattle.std.specs.Option.{option_map_or}
 use Rattle.prefix_keys.specs.Block.{first_of, width_of}
 use Rattle.pmap_model.specs.ListModel.{IsEquivalent, ListModel, Prefix, label_below, lies_inside}
 use Rattle.pmap_model.specs.MapModel.{IsSettled, Label, MapModel, settled_label}
-use Rattle.pmap_cert.specs.CertificateModel.{CertificateModel, ChainNode, InnerNode, LeafNode, Claim, Tree, claim_of, chain_claim, chosen_half, side_half, exact_claim}
+use Rattle.pmap_cert.specs.CertificateModel.{CertificateModel, ChainNode, InnerNode, LeafNode, Claim, Tree}
+use Rattle.pmap_cert.specs.CertificateModel.{claim_of, chain_claim, chosen_half, side_half, exact_claim}
 use Rattle.pmap_model.specs.Label.{has_label}
 
 -- Shortest lists, and the minimal pair of a map. Labels are compared by their texts.

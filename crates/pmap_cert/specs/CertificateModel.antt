@@ -1,4 +1,5 @@
-use Rattle.std.specs.Prelude.{ℕ, Bool, List, [], ◌∷◌, ◌≡◌, ◌+◌, ◌++◌, filter, map, zero, suc, ◌*◌, ◌⊎◌, true, false, length, if◌then◌else◌}
+use Rattle.std.specs.Prelude.{ℕ, Bool, List, [], ◌∷◌, ◌≡◌, ◌+◌, ◌++◌, filter, map}
+use Rattle.std.specs.Prelude.{zero, suc, ◌*◌, ◌⊎◌, true, false, length, if◌then◌else◌}
 use Rattle.prefix_keys.specs.declared.version.Version.{Version}
 use Rattle.pmap_model.specs.Label.{has_label}
 use Rattle.pmap_model.specs.MapModel.{Label}

@@ -1,4 +1,5 @@
-use Rattle.std.specs.Prelude.{ℕ, ◌==◌, Bool, List, [], ◌∷◌, ◌++◌, codes, length, map, if◌then◌else◌, ◌≡◌, zero, suc, ◌+◌, ◌^◌, ◌<◌, ◌≤◌}
+use Rattle.std.specs.Prelude.{ℕ, ◌==◌, Bool, List, [], ◌∷◌, ◌++◌, codes, length, map}
+use Rattle.std.specs.Prelude.{if◌then◌else◌, ◌≡◌, zero, suc, ◌+◌, ◌^◌, ◌<◌, ◌≤◌}
 use Rattle.std.specs.List.{flat_map, join_with_byte, position_or_len}
 use Rattle.std.specs.Fmt.{decimal}
 use Rattle.std.specs.Str.{bytes_eq}
@@ -8,7 +9,8 @@ use Rattle.prefix_keys.specs.declared.version.Version.TheVariants.{V4, V6}
 use Rattle.prefix_keys.specs.Block.{width_of}
 use Rattle.pmap_model.specs.MapModel.{Label}
 use Rattle.pmap_model.specs.Label.{IsLabelTable}
-use Rattle.pmap_cert.specs.CertificateModel.{CertificateModel, ChainNode, InnerNode, LeafNode, Tree, TreeOf, IsOfFormat, map_tree}
+use Rattle.pmap_cert.specs.CertificateModel.{CertificateModel, ChainNode, InnerNode}
+use Rattle.pmap_cert.specs.CertificateModel.{LeafNode, Tree, TreeOf, IsOfFormat, map_tree}
 
 -- The text of a certificate of either format: lines of words with one space between two, each line ended by a line
 -- feed. Labels are numbered by their index in the table.

@@ -1,4 +1,6 @@
-use Rattle.std.specs.Prelude.{ℕ, zero, suc, ◌+◌, ◌^◌, ◌&&◌, ◌==◌, Bool, true, false, List, [], ◌∷◌, ◌++◌, Option, Some, None, Result, Ok, Err, codes, length, map, nat_le, nat_lt, not, ok_or, option_and_then, option_map, if◌then◌else◌, ◌||◌}
+use Rattle.std.specs.Prelude.{ℕ, zero, suc, ◌+◌, ◌^◌, ◌&&◌, ◌==◌, Bool, true, false, List, [], ◌∷◌}
+use Rattle.std.specs.Prelude.{◌++◌, Option, Some, None, Result, Ok, Err, codes, length, map, nat_le}
+use Rattle.std.specs.Prelude.{nat_lt, not, ok_or, option_and_then, option_map, if◌then◌else◌, ◌||◌}
 use Rattle.std.specs.List.{slice_split}
 use Rattle.std.specs.Str.{bytes_eq}
 use Rattle.prefix_keys.specs.Text.{decimal_value}
@@ -14,7 +16,8 @@ use Rattle.pmap_cert.specs.CertificateText.{format_header}
 pub use Rattle.pmap_cert.specs.CertificateText.{ChainLine, DueLine, InnerLine, LeafLine, node_line_text}
 pub use Rattle.pmap_cert.specs.declared.fault.CertFault.{CertFault}
 pub use Rattle.pmap_cert.specs.declared.fault.CertFaultKind.{CertFaultKind}
-pub use Rattle.pmap_cert.specs.declared.fault.CertFaultKind.TheVariants.{BadHeader, BadLabelTable, BadNode, NoMemory, NodesLeft, NodesMissing, TooDeep}
+pub use Rattle.pmap_cert.specs.declared.fault.CertFaultKind.TheVariants.{BadHeader, BadLabelTable, BadNode}
+pub use Rattle.pmap_cert.specs.declared.fault.CertFaultKind.TheVariants.{NoMemory, NodesLeft, NodesMissing, TooDeep}
 
 -- The reading of a certificate's text of either format, line by line, and the first fault of any other text.
 

@@ -1,4 +1,6 @@
-use Rattle.std.specs.Prelude.{◌≡◌, ℕ, List, ◌++◌, Ok, Result, length, ◌^◌, ◌<◌, ◌≤◌, ◌==◌, ◌||◌, Bool, false, [], ◌∷◌, Option, None, Some, IfSome, if◌then◌else◌, ◌+◌, true, All, codes, drop, nat_eq, nat_lt, slice_index}
+use Rattle.std.specs.Prelude.{◌≡◌, ℕ, List, ◌++◌, Ok, Result, length, ◌^◌, ◌<◌, ◌≤◌, ◌==◌, ◌||◌}
+use Rattle.std.specs.Prelude.{Bool, false, [], ◌∷◌, Option, None, Some, IfSome, if◌then◌else◌}
+use Rattle.std.specs.Prelude.{◌+◌, true, All, codes, drop, nat_eq, nat_lt, slice_index}
 use Rattle.std.specs.Coded.{Coded-set, coded_list, coded_ℕ, le_prop}
 use Rattle.std.specs.Fmt.{decimal}
 use Rattle.std.specs.List.{flat_map, join_with_byte}
@@ -8,8 +10,10 @@ use Rattle.prefix_keys.specs.declared.version.Version.{Version}
 use Rattle.pmap_model.specs.MapModel.{Label}
 use Rattle.pmap_model.specs.Steps.{◌>>=◌}
 use Rattle.pmap_cert.specs.Format.{IsNodeOf, format_number, Format}
-use Rattle.pmap_cert.specs.FormatReading.{DueLine, Place, ended_by, fits_header, fits_line, line_due_at, node_line_text, nodes_at, CertFault}
-use Rattle.pmap_cert.specs.Node.{HasChainForm, Node, node_code, node_lines, tree_of, AreWhole, first_node, node_of, nodes_of}
+use Rattle.pmap_cert.specs.FormatReading.{DueLine, Place, ended_by, fits_header, fits_line}
+use Rattle.pmap_cert.specs.FormatReading.{line_due_at, node_line_text, nodes_at, CertFault}
+use Rattle.pmap_cert.specs.Node.{HasChainForm, Node, node_code, node_lines}
+use Rattle.pmap_cert.specs.Node.{tree_of, AreWhole, first_node, node_of, nodes_of}
 use Rattle.pmap_cert.specs.CertificateModel.{CertificateModel, ClaimOf, InnerNode, IsPlain, Tree}
 use Rattle.pmap_cert.specs.CertificateText.{IsAscending, bit_digits, format_header, format_word, version_word}
 use Rattle.pmap_cert.specs.Compacting.{run_bits, run_end, side_of}

@@ -1,4 +1,5 @@
-use Rattle.std.specs.Prelude.{List, [], ◌∷◌, ◌++◌, codes, map, ℕ, ◌≡◌, ◌^◌, ◌<◌, ◌≤◌, All, IsTrue, fold, length, unwrap_or}
+use Rattle.std.specs.Prelude.{List, [], ◌∷◌, ◌++◌, codes, map, ℕ, ◌≡◌, ◌^◌}
+use Rattle.std.specs.Prelude.{◌<◌, ◌≤◌, All, IsTrue, fold, length, unwrap_or}
 use Rattle.std.specs.Option.{ForSome, option_map_or}
 use Rattle.std.specs.List.{IsDistinct}
 use Rattle.prefix_keys.specs.Print.{block_text}

@@ -3,7 +3,8 @@ ghost use Rattle.std.specs.Prelude.{◌≡◌, ◌≢◌, ◌-◌, ◌<◌, ◌�
 ghost use Rattle.pmap_model.specs.Label.{has_label, is_label as is_label_text};
 ghost use Rattle.pmap_cert.specs.Certificate.{ReturnsCertificate, certificate_of};
 ghost use Rattle.pmap_cert.specs.Format.{IsNodeOf};
-ghost use Rattle.pmap_cert.specs.FormatReading.{format_reading, is_ended, labels_at, new_label, line_value, BadLabelTable, NoMemory};
+ghost use Rattle.pmap_cert.specs.FormatReading.{format_reading, is_ended, labels_at, new_label};
+ghost use Rattle.pmap_cert.specs.FormatReading.{line_value, BadLabelTable, NoMemory};
 ghost use Rattle.pmap_cert.specs.Node.{HasChainForm, tree_of};
 ghost use Rattle.pmap_cert.specs.Inner.{IsReadNode, node_due_at, reading_from};
 

@@ -6,8 +6,11 @@ ghost use Rattle.pmap_model.specs.ListModel.{ListModel};
 ghost use Rattle.pmap_model.specs.MapModel.{Label, MapModel};
 ghost use Rattle.pmap_cert.specs.Acceptance.{IsAccepted};
 ghost use Rattle.pmap_cert.specs.CertificateText.{HasFormatText, HasTextForm, certificate_text};
-ghost use Rattle.pmap_cert.specs.CertificateModel.{CertificateModel, InnerNode, LeafNode, Claim, Tree, claim_of, IsOfFormat, IsPlain, chain_claim, opened_tree, opened_certificate, claim_by_bits, IsSameClaim};
-ghost use Rattle.pmap_cert.specs.Compacting.{HasNoRun, IsSameShape, IsPath, OpensTo, compact, compacted, line_count, run_bits, run_compacted, run_end, side_of};
+ghost use Rattle.pmap_cert.specs.CertificateModel.{CertificateModel, InnerNode, LeafNode, Claim, Tree};
+ghost use Rattle.pmap_cert.specs.CertificateModel.{claim_of, IsOfFormat, IsPlain, chain_claim, opened_tree};
+ghost use Rattle.pmap_cert.specs.CertificateModel.{opened_certificate, claim_by_bits, IsSameClaim};
+ghost use Rattle.pmap_cert.specs.Compacting.{HasNoRun, IsSameShape, IsPath, OpensTo, compact, compacted};
+ghost use Rattle.pmap_cert.specs.Compacting.{line_count, run_bits, run_compacted, run_end, side_of};
 ghost use Rattle.pmap_cert.specs.FormatReading.{format_reading, CertFault};
 
 /// A chain's exact claim, which `chain_claim` gives in one step, equals the exact claim taken bit by bit from the end

@@ -8,7 +8,8 @@ ghost use Rattle.pmap_cert.specs.Compacting.{compact, compacted, is_side, leaf_l
 ghost use Rattle.pmap_cert.specs.Opened.{node_text};
 ghost use Rattle.pmap_cert.specs.Packed.{bits_in};
 ghost use Rattle.pmap_cert.specs.declared.format.Format.TheVariants.{One};
-ghost use Rattle.pmap_cert.specs.Inner.{AreEndsFrom, AreEndsFrom-prop, ArePlain, EndsAt, HasHalves, HasPlace, IsLong, IsRun, IsShort, IsStep, node_from};
+ghost use Rattle.pmap_cert.specs.Inner.{AreEndsFrom, AreEndsFrom-prop, ArePlain, EndsAt, HasHalves};
+ghost use Rattle.pmap_cert.specs.Inner.{HasPlace, IsLong, IsRun, IsShort, IsStep, node_from};
 
 use crate::certificate::Certificate;
 use crate::certificate_reading::read_cert;

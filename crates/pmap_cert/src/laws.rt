@@ -6,7 +6,8 @@ ghost use Rattle.pmap_model.specs.MapModel.{Label, MapModel};
 ghost use Rattle.pmap_text.specs.Reading.{map_reading};
 ghost use Rattle.pmap_cert.specs.Acceptance.{IsAccepted, IsLeast, HasListForm, HasItsLabels, IsMinimalPair};
 ghost use Rattle.pmap_cert.specs.CertificateText.{HasTextForm};
-ghost use Rattle.pmap_cert.specs.CertificateModel.{CertificateModel, Claim, claim_of, IsClaimWith, IsSameClaim, exact_claim};
+ghost use Rattle.pmap_cert.specs.CertificateModel.{CertificateModel, Claim, claim_of};
+ghost use Rattle.pmap_cert.specs.CertificateModel.{IsClaimWith, IsSameClaim, exact_claim};
 ghost use Rattle.pmap_model.specs.Label.{has_label};
 
 /// An accepted certificate is enough, whoever made it: its list labels every address as the map does, and no list that

@@ -8,7 +8,8 @@ ghost use Rattle.pmap_model.specs.MapModel.{MapModel};
 ghost use Rattle.pmap_text.specs.Reading.{label_limit, mapping_limit, map_reading, list_reading};
 ghost use Rattle.pmap_cert.specs.Acceptance.{IsAccepted, IsInOrder, IsMinimalPair};
 ghost use Rattle.pmap_cert.specs.CertificateModel.{CertificateModel};
-ghost use Rattle.pmap_cert.specs.ListText.{list_text, entries_in_order, CanBeReadAgain, IsListAgain, IsMapAgain, IsWellFormed, labels_of};
+ghost use Rattle.pmap_cert.specs.ListText.{list_text, entries_in_order, CanBeReadAgain};
+ghost use Rattle.pmap_cert.specs.ListText.{IsListAgain, IsMapAgain, IsWellFormed, labels_of};
 
 /// A list is printed in the only order in which each entry precedes all that follow it. A list in that order keeps it.
 pub fn printed_order_is_one()

@@ -1,7 +1,9 @@
 //! The lines of nodes, each read in one pass over its bytes.
 ghost use Rattle.std.specs.Prelude.{◌≡◌, ◌^◌, ◌<◌, ◌≤◌, IfOk, map, option_map};
 ghost use Rattle.pmap_cert.specs.Format.{format_number};
-ghost use Rattle.pmap_cert.specs.Inner.{BeginsWithBits, BeginsWithChain, BeginsWithClaim, BeginsWithLast, BeginsWithLine, BeginsWithNumber, BeginsWithSet, Finds, after_byte as after_byte_of};
+ghost use Rattle.pmap_cert.specs.Inner.{BeginsWithBits, BeginsWithChain, BeginsWithClaim};
+ghost use Rattle.pmap_cert.specs.Inner.{BeginsWithLast, BeginsWithLine, BeginsWithNumber};
+ghost use Rattle.pmap_cert.specs.Inner.{BeginsWithSet, Finds, after_byte as after_byte_of};
 ghost use Rattle.pmap_cert.specs.Packed.{bits_in, line_of};
 
 use crate::format::Format;

@@ -1,8 +1,10 @@
-ghost use Rattle.std.specs.Prelude.{◌≡◌, ◌+◌, ◌^◌, ◌<◌, ◌++◌, ◌∷◌, [], IfOk, OnErr, OnOk, length, map, reverse, slice_index_or};
+ghost use Rattle.std.specs.Prelude.{◌≡◌, ◌+◌, ◌^◌, ◌<◌, ◌++◌, ◌∷◌, [], IfOk, OnErr};
+ghost use Rattle.std.specs.Prelude.{OnOk, length, map, reverse, slice_index_or};
 ghost use Rattle.pmap_cert.specs.CertificateText.{ChainLine, LeafLine};
 ghost use Rattle.pmap_cert.specs.CertificateModel.{claim_of};
 ghost use Rattle.pmap_cert.specs.Node.{node_of};
-ghost use Rattle.pmap_cert.specs.Packed.{HasSetAt, IsGrown, IsLine, IsMore, bits_in, cost_at, line_of, set_at, store_of};
+ghost use Rattle.pmap_cert.specs.Packed.{HasSetAt, IsGrown, IsLine, IsMore, bits_in};
+ghost use Rattle.pmap_cert.specs.Packed.{cost_at, line_of, set_at, store_of};
 
 use crate::node::{Claim, Node};
 use crate::packed::{HALF, Packed, SHORT_COSTS, Unpacked};

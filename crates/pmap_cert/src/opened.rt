@@ -1,12 +1,14 @@
 //! Printing a compact certificate with each chain opened.
-ghost use Rattle.std.specs.Prelude.{◌≡◌, ◌+◌, ◌<◌, ◌≤◌, ◌++◌, ◌∷◌, [], OnOk, drop, if◌then◌else◌, length, nat_lt, position, take};
+ghost use Rattle.std.specs.Prelude.{◌≡◌, ◌+◌, ◌<◌, ◌≤◌, ◌++◌, ◌∷◌, [], OnOk, drop};
+ghost use Rattle.std.specs.Prelude.{if◌then◌else◌, length, nat_lt, position, take};
 ghost use Rattle.std.specs.Fmt.{decimal};
 ghost use Rattle.std.specs.List.{flat_map};
 ghost use Rattle.flow_io.specs.Sinks.{Adds, Pushes};
 ghost use Rattle.pmap_cert.specs.CertificateText.{InnerLine, LeafLine, certificate_text, node_line_text};
 ghost use Rattle.pmap_cert.specs.CertificateModel.{CertificateModel, claim_of};
 ghost use Rattle.pmap_cert.specs.Node.{Node as AnyNode, first_node};
-ghost use Rattle.pmap_cert.specs.Opened.{IsOpenedAt, Opens, cost_above, node_text, numbers_of, path_node, set_above, text_down, text_up, with_number};
+ghost use Rattle.pmap_cert.specs.Opened.{IsOpenedAt, Opens, cost_above, node_text, numbers_of};
+ghost use Rattle.pmap_cert.specs.Opened.{path_node, set_above, text_down, text_up, with_number};
 
 use crate::certificate::Certificate;
 use crate::cursor::Cursor;

@@ -4,7 +4,9 @@ ghost use Rattle.std.specs.List.{flat_map, join_with_byte};
 ghost use Rattle.std.specs.Fmt.{decimal};
 ghost use Rattle.flow_io.specs.Sinks.{Pushes};
 ghost use Rattle.pmap_cert.specs.Certificate.{certificate_of};
-ghost use Rattle.pmap_cert.specs.CertificateText.{ChainLine, InnerLine, LeafLine, bit_digits, certificate_text, format_header, format_word, node_line_text, text_of_lines, version_word};
+ghost use Rattle.pmap_cert.specs.CertificateText.{ChainLine, InnerLine, LeafLine, bit_digits};
+ghost use Rattle.pmap_cert.specs.CertificateText.{certificate_text, format_header, format_word};
+ghost use Rattle.pmap_cert.specs.CertificateText.{node_line_text, text_of_lines, version_word};
 ghost use Rattle.pmap_cert.specs.Format.{format_number};
 ghost use Rattle.pmap_cert.specs.Packed.{bits_in, line_of};
 

@@ -1,4 +1,5 @@
-use Rattle.std.specs.Prelude.{◌≡◌, ℕ, zero, suc, ◌+◌, ◌^◌, ◌<◌, ◌||◌, Bool, true, false, List, [], ◌∷◌, ◌++◌, Option, None, Some, filter, length, slice_get, All}
+use Rattle.std.specs.Prelude.{◌≡◌, ℕ, zero, suc, ◌+◌, ◌^◌, ◌<◌, ◌||◌, Bool, true, false, List}
+use Rattle.std.specs.Prelude.{[], ◌∷◌, ◌++◌, Option, None, Some, filter, length, slice_get, All}
 use Rattle.std.specs.List.{list_any}
 use Rattle.prefix_keys.specs.declared.block.Block.{Block}
 use Rattle.pmap_model.specs.declared.entry.Entry.{Entry}

@@ -1,4 +1,5 @@
-use Rattle.std.specs.Prelude.{◌≡◌, ◌≢◌, ℕ, zero, suc, ◌+◌, ◌-◌, ◌^◌, ◌<◌, ◌≤◌, ◌==◌, ◌⊎◌, List, Option, None, Some, IsSome, length, if◌then◌else◌, option_map}
+use Rattle.std.specs.Prelude.{◌≡◌, ◌≢◌, ℕ, zero, suc, ◌+◌, ◌-◌, ◌^◌, ◌<◌, ◌≤◌, ◌==◌, ◌⊎◌, List}
+use Rattle.std.specs.Prelude.{Option, None, Some, IsSome, length, if◌then◌else◌, option_map}
 use Rattle.std.specs.Option.{option_or}
 use Rattle.prefix_keys.specs.Block.{width_of}
 use Rattle.pmap_model.specs.Label.{IsLabelTable}

@@ -1,5 +1,6 @@
 //! Builds the compact certificate of a map's minimal pair from the map's stretches, from the leaves up.
-ghost use Rattle.std.specs.Prelude.{◌≡◌, ◌+◌, ◌-◌, ◌^◌, ◌<◌, ◌++◌, ◌∷◌, [], IfOk, OnOk, if◌then◌else◌, length, MatchOption, Some};
+ghost use Rattle.std.specs.Prelude.{◌≡◌, ◌+◌, ◌-◌, ◌^◌, ◌<◌, ◌++◌, ◌∷◌, [], IfOk};
+ghost use Rattle.std.specs.Prelude.{OnOk, if◌then◌else◌, length, MatchOption, Some};
 ghost use Rattle.std.specs.Option.{option_or};
 ghost use Rattle.pmap_cert.specs.FormatReading.{ChainLine};
 ghost use Rattle.pmap_cert.specs.Node.{claiming};

@@ -1,4 +1,5 @@
-use Rattle.std.specs.Prelude.{◌≡◌, ℕ, zero, suc, ◌^◌, ◌<◌, ◌&&◌, ◌==◌, Bool, List, Option, Some, None, find, nat_lt, option_map, ◌≤◌, ◌↔◌, ◌∷◌, ◌++◌, All, Contains}
+use Rattle.std.specs.Prelude.{◌≡◌, ℕ, zero, suc, ◌^◌, ◌<◌, ◌&&◌, ◌==◌, Bool, List, Option, Some}
+use Rattle.std.specs.Prelude.{None, find, nat_lt, option_map, ◌≤◌, ◌↔◌, ◌∷◌, ◌++◌, All, Contains}
 use Rattle.std.specs.Option.{option_or}
 use Rattle.prefix_keys.specs.Block.{block_number, width_of}
 use Rattle.prefix_keys.specs.declared.version.Version.{Version}

@@ -1,4 +1,5 @@
-use Rattle.std.specs.Prelude.{◌≡◌, ℕ, ◌+◌, ◌<◌, ◌&&◌, Bool, List, [], ◌∷◌, Option, All, length, nat_le, nat_lt, if◌then◌else◌}
+use Rattle.std.specs.Prelude.{◌≡◌, ℕ, ◌+◌, ◌<◌, ◌&&◌, Bool, List, [], ◌∷◌}
+use Rattle.std.specs.Prelude.{Option, All, length, nat_le, nat_lt, if◌then◌else◌}
 use Rattle.std.specs.Option.{ForSome}
 use Rattle.prefix_keys.specs.Block.{first_of, last_of, width_of}
 use Rattle.pmap_model.specs.MapModel.{Mapping, MapModel}

@@ -1,4 +1,5 @@
-ghost use Rattle.std.specs.Prelude.{◌≡◌, ◌<◌, ◌≤◌, IsOk, ℕ, [], List, length, Some, IsTrue, IfOk, IfSome, OnErr, OnOk, option_map, slice_get};
+ghost use Rattle.std.specs.Prelude.{◌≡◌, ◌<◌, ◌≤◌, IsOk, ℕ, [], List, length, Some, IsTrue};
+ghost use Rattle.std.specs.Prelude.{IfOk, IfSome, OnErr, OnOk, option_map, slice_get};
 ghost use Rattle.pmap_model.specs.Label.{is_label, has_label, number_of, with_label, IsLabelTable};
 
 use crate::hashing::KeyHashing;

@@ -4,7 +4,8 @@ ghost use Rattle.std.specs.Prelude.{◌≡◌, ℕ, Some, MatchOption, All};
 ghost use Rattle.std.specs.List.{IsDistinct};
 ghost use Rattle.std.specs.List.Sorted.{IsPermutation};
 ghost use Rattle.prefix_keys.specs.Block.{block_number, width_of};
-ghost use Rattle.pmap_model.specs.ListModel.{ListModel, Prefix, list_label, CoversAddress, HasSamePrefixes, IsLongestMatch, LabelsBlocksOnce, is_same_prefix};
+ghost use Rattle.pmap_model.specs.ListModel.{ListModel, Prefix, list_label, CoversAddress, HasSamePrefixes};
+ghost use Rattle.pmap_model.specs.ListModel.{IsLongestMatch, LabelsBlocksOnce, is_same_prefix};
 ghost use Rattle.pmap_model.specs.MapModel.{IsSettled, Label, MapModel, map_label};
 ghost use Rattle.pmap_model.specs.PrefixList.{list_of, PrefixList};
 

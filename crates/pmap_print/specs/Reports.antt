@@ -1,4 +1,5 @@
-use Rattle.std.specs.Prelude.{List, [], ◌∷◌, ◌++◌, map, Option, Some, None, Bool, false, true, codes, decimal, unwrap_or, option_map, option_copied, fold, ℕ, slice_index_or, if◌then◌else◌}
+use Rattle.std.specs.Prelude.{List, [], ◌∷◌, ◌++◌, map, Option, Some, None, Bool, false, true, codes, decimal}
+use Rattle.std.specs.Prelude.{unwrap_or, option_map, option_copied, fold, ℕ, slice_index_or, if◌then◌else◌}
 use Rattle.std.specs.Borrow.{Bor}
 use Rattle.std.specs.Global.{Vec}
 use Rattle.std.specs.List.{zip}

@@ -1,4 +1,5 @@
-use Rattle.std.specs.Prelude.{ℕ, ◌+◌, ◌-◌, max, set, List, [], ◌∷◌, ◌++◌, length, map, fold, replicate, slice_index_or, Bool, if◌then◌else◌, ◌≡◌, ◌<◌, ◌≤◌, All, is_some, slice_index, take}
+use Rattle.std.specs.Prelude.{ℕ, ◌+◌, ◌-◌, max, set, List, [], ◌∷◌, ◌++◌, length, map, fold, replicate}
+use Rattle.std.specs.Prelude.{slice_index_or, Bool, if◌then◌else◌, ◌≡◌, ◌<◌, ◌≤◌, All, is_some, slice_index, take}
 use Rattle.std.specs.List.{enumerate_from, flat_map, join_with_byte}
 use Rattle.std.specs.Option.{ForNone, ForSome}
 pub use Rattle.pmap_stretches.specs.RunsText.{Line, Text, line_text}

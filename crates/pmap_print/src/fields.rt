@@ -1,5 +1,6 @@
 //! Printing fields, and their lengths.
-ghost use Rattle.std.specs.Prelude.{◌≡◌, ◌+◌, ◌-◌, ◌^◌, ◌<◌, ◌≤◌, ◌++◌, decimal, drop, length, option_map, replicate, take};
+ghost use Rattle.std.specs.Prelude.{◌≡◌, ◌+◌, ◌-◌, ◌^◌, ◌<◌, ◌≤◌, ◌++◌, decimal};
+ghost use Rattle.std.specs.Prelude.{drop, length, option_map, replicate, take};
 ghost use Rattle.flow_io.specs.Sinks.{Pushes};
 ghost use Rattle.prefix_keys.specs.Print.{address_text, block_text};
 ghost use Rattle.pmap_print.specs.Table.{ended, marked};

@@ -3,7 +3,8 @@ ghost use Rattle.std.specs.Prelude.{◌≡◌, ◌<◌, ◌≤◌, ◌++◌, IfO
 ghost use Rattle.std.specs.List.{flat_map};
 ghost use Rattle.std.specs.Option.{ForSome};
 ghost use Rattle.pmap_print.specs.Table.{IsFrontOf, header_text, marked, marked_line};
-ghost use Rattle.pmap_print.specs.Reports.{labels_of_row, given_labels, label_fields, label_texts, row_fields, row_line, rows_text, title_line};
+ghost use Rattle.pmap_print.specs.Reports.{labels_of_row, given_labels, label_fields, label_texts};
+ghost use Rattle.pmap_print.specs.Reports.{row_fields, row_line, rows_text, title_line};
 
 use crate::fields::{write_address, write_number};
 use crate::mark::Mark;

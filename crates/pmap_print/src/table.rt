@@ -1,5 +1,6 @@
 //! A table of flow rows, line by line.
-ghost use Rattle.std.specs.Prelude.{◌≡◌, ℕ, ◌<◌, ◌≤◌, List, [], ◌∷◌, ◌++◌, IfOk, OnErr, OnOk, drop, is_some, length, option_map};
+ghost use Rattle.std.specs.Prelude.{◌≡◌, ℕ, ◌<◌, ◌≤◌, List, [], ◌∷◌, ◌++◌, IfOk};
+ghost use Rattle.std.specs.Prelude.{OnErr, OnOk, drop, is_some, length, option_map};
 ghost use Rattle.std.specs.Option.{ForSome};
 ghost use Rattle.pmap_print.specs.Reports.{column_count, label_texts, row_line, title_line};
 ghost use Rattle.pmap_print.specs.Table.{has_columns, AreWide, IsTable, Line, sized, table_text};

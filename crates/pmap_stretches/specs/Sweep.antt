@@ -1,10 +1,12 @@
-use Rattle.std.specs.Prelude.{◌≡◌, ◌≢◌, ℕ, ◌+◌, ◌-◌, ◌^◌, ◌<◌, ◌≤◌, ◌⊎◌, Bool, true, false, if◌then◌else◌, List, Option, Some, All, Contains, IsSomeAnd, length, option_and_then, option_map, slice_get}
+use Rattle.std.specs.Prelude.{◌≡◌, ◌≢◌, ℕ, ◌+◌, ◌-◌, ◌^◌, ◌<◌, ◌≤◌, ◌⊎◌, Bool, true, false, if◌then◌else◌, List}
+use Rattle.std.specs.Prelude.{Option, Some, All, Contains, IsSomeAnd, length, option_and_then, option_map, slice_get}
 use Rattle.std.specs.Option.{ForSome}
 use Rattle.prefix_keys.specs.Block.{width_of}
 use Rattle.pmap_model.specs.declared.label.LabelId.{LabelId}
 use Rattle.pmap_model.specs.declared.statement.Statement.{Statement}
 use Rattle.pmap_stretches.specs.Starting.{IsOrder, Start, number_at}
-use Rattle.pmap_stretches.specs.Stretches.{AreRunsOf, AreStretches, HasEveryAddress, StretchesModel, first_at, label_at, label_held, label_seen, last_at}
+use Rattle.pmap_stretches.specs.Stretches.{AreRunsOf, AreStretches, HasEveryAddress, StretchesModel}
+use Rattle.pmap_stretches.specs.Stretches.{first_at, label_at, label_held, label_seen, last_at}
 use Rattle.pmap_stretches.specs.declared.stretches.ascent.Ascent.{Ascent}
 use Rattle.pmap_stretches.specs.declared.stretches.growing.Growing.{Growing}
 

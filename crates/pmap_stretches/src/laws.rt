@@ -1,7 +1,8 @@
 //! Laws about stretches and runs.
 
 ghost use Rattle.std.specs.Option.{option_map_or};
-ghost use Rattle.std.specs.Prelude.{◌≡◌, ◌≢◌, ◌+◌, ◌<◌, ◌≤◌, ◌^◌, ℕ, List, Option, Some, None, length, nat_le, slice_index_or, if◌then◌else◌};
+ghost use Rattle.std.specs.Prelude.{◌≡◌, ◌≢◌, ◌+◌, ◌<◌, ◌≤◌, ◌^◌, ℕ, List, Option, Some};
+ghost use Rattle.std.specs.Prelude.{None, length, nat_le, slice_index_or, if◌then◌else◌};
 ghost use Rattle.prefix_keys.specs.Block.{first_of, last_of, width_of};
 ghost use Rattle.prefix_keys.specs.declared.version.Version.{Version};
 ghost use Rattle.pmap_model.specs.ListModel.{IsEquivalent, ListModel, list_label};

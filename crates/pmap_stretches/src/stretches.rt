@@ -1,8 +1,10 @@
-ghost use Rattle.std.specs.Prelude.{◌≡◌, ◌↔◌, ℕ, IsTrue, ◌+◌, ◌-◌, ◌^◌, ◌<◌, ◌≤◌, ◌++◌, ◌∷◌, [], List, None, Some, IfOk, OnOk, length};
+ghost use Rattle.std.specs.Prelude.{◌≡◌, ◌↔◌, ℕ, IsTrue, ◌+◌, ◌-◌, ◌^◌, ◌<◌, ◌≤◌, ◌++◌};
+ghost use Rattle.std.specs.Prelude.{◌∷◌, [], List, None, Some, IfOk, OnOk, length};
 ghost use Rattle.std.specs.Option.{ForSome};
 ghost use Rattle.prefix_keys.specs.Block.{width_of};
 ghost use Rattle.pmap_stretches.specs.Sweep.{AreSwept};
-ghost use Rattle.pmap_stretches.specs.Stretches.{label_kept, AreLabelsBelow, AreStretches, HasEveryAddress, HoldsAddress, count_begun, first_at, label_at, last_at, text_held};
+ghost use Rattle.pmap_stretches.specs.Stretches.{label_kept, AreLabelsBelow, AreStretches, HasEveryAddress};
+ghost use Rattle.pmap_stretches.specs.Stretches.{HoldsAddress, count_begun, first_at, label_at, last_at, text_held};
 ghost use Rattle.pmap_model.specs.ListModel.{list_label};
 ghost use Rattle.pmap_model.specs.MapModel.{map_label};
 ghost use Rattle.pmap_model.specs.MapText.{map_of};

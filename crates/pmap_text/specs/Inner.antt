@@ -1,4 +1,6 @@
-use Rattle.std.specs.Prelude.{◌≡◌, ◌≢◌, ◌+◌, ◌≤◌, ◌||◌, ◌&&◌, ◌==◌, ◌⊎◌, All, length, ℕ, Bool, true, false, if◌then◌else◌, List, [], ◌∷◌, ◌++◌, Option, Some, None, Result, Ok, Err, IfErr, IfOk, OnErr, OnOk, slice_get, take, unwrap_or}
+use Rattle.std.specs.Prelude.{◌≡◌, ◌≢◌, ◌+◌, ◌≤◌, ◌||◌, ◌&&◌, ◌==◌, ◌⊎◌, All, length, ℕ, Bool, true}
+use Rattle.std.specs.Prelude.{false, if◌then◌else◌, List, [], ◌∷◌, ◌++◌, Option, Some, None, Result}
+use Rattle.std.specs.Prelude.{Ok, Err, IfErr, IfOk, OnErr, OnOk, slice_get, take, unwrap_or}
 use Rattle.std.specs.List.{list_any, IsDistinct}
 use Rattle.std.specs.Option.{option_map_or}
 use Rattle.std.specs.Ordering.{is_eq, nat_cmp, ordering_then}
@@ -15,7 +17,9 @@ pub use Rattle.pmap_text.specs.declared.reading.leading.Word.{Word}
 pub use Rattle.pmap_text.specs.declared.reading.leading.Word.TheVariants.{Address}
 use Rattle.pmap_text.specs.declared.reading.leading.Word.TheVariants.{Block as block_word}
 use Rattle.pmap_text.specs.Declarations.{meant_text}
-use Rattle.pmap_text.specs.Reading.{after_word, block_line, lines_of, lines_read, no_lines, range_line, unknown, Earlier, MapFault, MapFaultKind, DuplicateBlock, NoMemory, Form, has_prefix, has_room}
+use Rattle.pmap_text.specs.Reading.{after_word, block_line, lines_of, lines_read, no_lines}
+use Rattle.pmap_text.specs.Reading.{range_line, unknown, Earlier, MapFault, MapFaultKind}
+use Rattle.pmap_text.specs.Reading.{DuplicateBlock, NoMemory, Form, has_prefix, has_room}
 use Rattle.pmap_text.specs.declared.reading.form.Form.TheVariants.{Map as map_form}
 
 -- Prefixes of a text, for the contracts of private functions. Callers of the crate need not read them.

@@ -1,4 +1,6 @@
-use Rattle.std.specs.Prelude.{ℕ, ◌==◌, ◌-◌, List, [], ◌∷◌, length, take, drop, not, if◌then◌else◌, ◌≡◌, ◌≢◌, ◌≤◌, ◌+◌, ◌&&◌, ◌||◌, Bool, true, ◌++◌, Option, Some, None, Result, Ok, Err, IfErr, IfOk, codes, is_some, nat_le, nat_lt, ok_or, slice_index, unwrap_or}
+use Rattle.std.specs.Prelude.{ℕ, ◌==◌, ◌-◌, List, [], ◌∷◌, length, take, drop, not, if◌then◌else◌, ◌≡◌, ◌≢◌}
+use Rattle.std.specs.Prelude.{◌≤◌, ◌+◌, ◌&&◌, ◌||◌, Bool, true, ◌++◌, Option, Some, None, Result, Ok, Err}
+use Rattle.std.specs.Prelude.{IfErr, IfOk, codes, is_some, nat_le, nat_lt, ok_or, slice_index, unwrap_or}
 use Rattle.std.specs.List.{before_first, onto_first, position_or_len, suffix_len, list_all, list_any}
 use Rattle.std.specs.Option.{option_map_or}
 use Rattle.std.specs.Str.{bytes_eq}
@@ -19,7 +21,11 @@ use Rattle.pmap_model.specs.PrefixList.{list_of}
 use Rattle.pmap_model.specs.declared.prefix_list.PrefixList.{PrefixList}
 pub use Rattle.pmap_text.specs.declared.fault.MapFault.{MapFault}
 pub use Rattle.pmap_text.specs.declared.fault.MapFaultKind.{MapFaultKind}
-pub use Rattle.pmap_text.specs.declared.fault.MapFaultKind.TheVariants.{BadAddress, BadLabel, BadLength, BadMode, BadStatement, DuplicateBlock, LabelConflict, LowAboveHigh, MissingLabel, ModeLate, ModeRepeated, NoMemory, NotAList, TooMany, WrongVersion}
+pub use Rattle.pmap_text.specs.declared.fault.MapFaultKind.TheVariants.{BadAddress, BadLabel, BadLength, BadMode}
+pub use Rattle.pmap_text.specs.declared.fault.MapFaultKind.TheVariants.{BadStatement, DuplicateBlock}
+pub use Rattle.pmap_text.specs.declared.fault.MapFaultKind.TheVariants.{LabelConflict, LowAboveHigh, MissingLabel}
+pub use Rattle.pmap_text.specs.declared.fault.MapFaultKind.TheVariants.{ModeLate, ModeRepeated, NoMemory}
+pub use Rattle.pmap_text.specs.declared.fault.MapFaultKind.TheVariants.{NotAList, TooMany, WrongVersion}
 pub use Rattle.pmap_text.specs.declared.reading.form.Form.{Form}
 use Rattle.prefix_keys.specs.declared.text.BlockFault.TheVariants as block_faults
 use Rattle.pmap_text.specs.declared.reading.form.Form.TheVariants as form

@@ -1,4 +1,5 @@
-ghost use Rattle.std.specs.Prelude.{◌≡◌, ◌<◌, ◌≤◌, ◌++◌, ◌∷◌, [], Some, true, false, ◌⊎◌, length, slice_get, unwrap_or, IsTrue, IfOk, IfErr, IfSome, OnOk, OnErr};
+ghost use Rattle.std.specs.Prelude.{◌≡◌, ◌<◌, ◌≤◌, ◌++◌, ◌∷◌, [], Some, true, false, ◌⊎◌, length};
+ghost use Rattle.std.specs.Prelude.{slice_get, unwrap_or, IsTrue, IfOk, IfErr, IfSome, OnOk, OnErr};
 ghost use Rattle.pmap_model.specs.Label.{has_label, is_label as is_label_text, with_label};
 ghost use Rattle.pmap_text.specs.Inner.{HasDistinctKeys, IsFirstRepeat, list_from, map_from};
 ghost use Rattle.pmap_model.specs.MapText.{map_of, text_at};

@@ -1,4 +1,5 @@
-use Rattle.std.specs.Prelude.{ℕ, ◌+◌, ◌*◌, List, Option, Some, None, fold, length, nat_le, if◌then◌else◌, ◌≡◌, ◌||◌, ◌==◌, Bool, true, ◌++◌, option_map}
+use Rattle.std.specs.Prelude.{ℕ, ◌+◌, ◌*◌, List, Option, Some, None, fold, length, nat_le}
+use Rattle.std.specs.Prelude.{if◌then◌else◌, ◌≡◌, ◌||◌, ◌==◌, Bool, true, ◌++◌, option_map}
 use Rattle.std.specs.List.{list_all, slice_split}
 use Rattle.std.specs.Char.{is_ascii_hexdigit}
 use Rattle.prefix_keys.specs.Text.{around_gap, groups_of_pieces, text_groups}

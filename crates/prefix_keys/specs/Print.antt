@@ -1,4 +1,5 @@
-use Rattle.std.specs.Prelude.{ℕ, ◌+◌, ◌*◌, ◌/◌, ◌%◌, ◌^◌, ◌==◌, false, List, [], ◌∷◌, ◌++◌, map, take, drop, nat_le, if◌then◌else◌, ◌≡◌, ◌<◌, ◌≤◌, Some, Ok, replicate}
+use Rattle.std.specs.Prelude.{ℕ, ◌+◌, ◌*◌, ◌/◌, ◌%◌, ◌^◌, ◌==◌, false, List, [], ◌∷◌, ◌++◌, map}
+use Rattle.std.specs.Prelude.{take, drop, nat_le, if◌then◌else◌, ◌≡◌, ◌<◌, ◌≤◌, Some, Ok, replicate}
 use Rattle.std.specs.List.{join_with_byte, prefix_len}
 use Rattle.std.specs.Fmt.{decimal, digits}
 use Rattle.prefix_keys.specs.Block.{Version, V4, V6, width_of}

@@ -2,7 +2,8 @@
 ghost use Rattle.std.specs.Prelude.{◌≡◌, ◌+◌, ◌^◌, ◌<◌, ◌≤◌, [], IfOk, OnOk, length};
 ghost use Rattle.std.specs.Option.{ForSome};
 ghost use Rattle.prefix_keys.specs.Block.{width_of};
-ghost use Rattle.pmap_stretches.specs.Sweep.{AreOpen, AreSwept, BeginAfter, Continues, HaveLabelsWon, HaveNumbers, IsAscent, statement_won};
+ghost use Rattle.pmap_stretches.specs.Sweep.{AreOpen, AreSwept, BeginAfter, Continues};
+ghost use Rattle.pmap_stretches.specs.Sweep.{HaveLabelsWon, HaveNumbers, IsAscent, statement_won};
 ghost use Rattle.pmap_stretches.specs.Starting.{IsOrder};
 ghost use Rattle.pmap_stretches.specs.Stretches.{label_seen};
 

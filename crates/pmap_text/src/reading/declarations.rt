@@ -1,5 +1,6 @@
 ghost use Rattle.std.specs.Prelude.{◌≡◌, ◌↔◌, [], false, option_map, IfSome, IsTrue, OnErr, OnOk};
-ghost use Rattle.pmap_text.specs.Declarations.{conflicts, declared_text, label_number as number_of_text, meant_text, with_declared};
+ghost use Rattle.pmap_text.specs.Declarations.{conflicts, declared_text, label_number as number_of_text};
+ghost use Rattle.pmap_text.specs.Declarations.{meant_text, with_declared};
 ghost use Rattle.pmap_model.specs.Label.{is_label};
 
 use indexmap::IndexSet;

@@ -1,10 +1,13 @@
 //! The reading of one line of a text.
-ghost use Rattle.std.specs.Prelude.{◌≡◌, ◌<◌, ◌==◌, ◌||◌, ◌⊎◌, if◌then◌else◌, Some, None, Ok, Err, true, false, slice_get, slice_index, unwrap_or, IsTrue, IfOk, IfErr, OnOk, OnErr};
+ghost use Rattle.std.specs.Prelude.{◌≡◌, ◌<◌, ◌==◌, ◌||◌, ◌⊎◌, if◌then◌else◌, Some, None, Ok, Err, true, false};
+ghost use Rattle.std.specs.Prelude.{slice_get, slice_index, unwrap_or, IsTrue, IfOk, IfErr, OnOk, OnErr};
 ghost use Rattle.std.specs.List.{list_any};
 ghost use Rattle.prefix_keys.specs.Text.{address_of, block_of_text, is_digit};
 ghost use Rattle.pmap_text.specs.Declarations.{label_number as number_of_label, meant_text};
 ghost use Rattle.pmap_model.specs.Label.{is_label as is_label_text, with_label};
-ghost use Rattle.pmap_text.specs.Reading.{after_word, first_word, block_line, content_line, default_line, label_line, label_of, mode_line, mode_version, placed_line, range_line, span_line, statement_line, BadAddress, BadStatement, NoMemory, TooMany, name_line};
+ghost use Rattle.pmap_text.specs.Reading.{after_word, first_word, block_line, content_line, default_line, label_line};
+ghost use Rattle.pmap_text.specs.Reading.{label_of, mode_line, mode_version, placed_line, range_line, span_line};
+ghost use Rattle.pmap_text.specs.Reading.{statement_line, BadAddress, BadStatement, NoMemory, TooMany, name_line};
 ghost use Rattle.pmap_text.specs.declared.reading.form.Form.TheVariants.{List as list_form};
 ghost use Rattle.pmap_text.specs.Inner.{ReadsLine, has_label_room, one_or_two};
 

@@ -1,5 +1,6 @@
 //! The lines of a text and the words of a line.
-ghost use Rattle.std.specs.Prelude.{◌≡◌, ◌+◌, ◌<◌, ◌≤◌, ◌∷◌, ◌==◌, ◌||◌, ℕ, Bool, List, [], length, not, position, take};
+ghost use Rattle.std.specs.Prelude.{◌≡◌, ◌+◌, ◌<◌, ◌≤◌, ◌∷◌, ◌==◌, ◌||◌, ℕ};
+ghost use Rattle.std.specs.Prelude.{Bool, List, [], length, not, position, take};
 ghost use Rattle.std.specs.List.{position_or_len};
 ghost use Rattle.pmap_model.specs.Label.{is_blank as is_blank_byte};
 ghost use Rattle.pmap_text.specs.Reading.{after_word, content_of, first_word, lines_of, trim_start, trim_end};

@@ -1,6 +1,8 @@
-ghost use Rattle.std.specs.Prelude.{◌≡◌, ◌≤◌, ◌<◌, ◌+◌, ◌*◌, ◌-◌, ◌^◌, IfSome, Some, None, [], ◌∷◌, option_map, nat_le, if◌then◌else◌};
+ghost use Rattle.std.specs.Prelude.{◌≡◌, ◌≤◌, ◌<◌, ◌+◌, ◌*◌, ◌-◌, ◌^◌, IfSome, Some};
+ghost use Rattle.std.specs.Prelude.{None, [], ◌∷◌, option_map, nat_le, if◌then◌else◌};
 ghost use Rattle.std.specs.Char.{is_ascii_hexdigit};
-ghost use Rattle.prefix_keys.specs.Text.{hex_digit_value, hex_group, text_groups, around_gap, last_groups, colon_address};
+ghost use Rattle.prefix_keys.specs.Text.{hex_digit_value, hex_group, text_groups};
+ghost use Rattle.prefix_keys.specs.Text.{around_gap, last_groups, colon_address};
 ghost use Rattle.prefix_keys.specs.Inner.{BeginsWith, BeginsWithSide, is_colon_byte, more_groups, piece_groups};
 
 use crate::cutting::cut;
