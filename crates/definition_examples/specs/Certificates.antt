@@ -33,13 +33,16 @@ compacted_text text = format_reading text >>= (λ c. Ok (certificate_text (compa
 abbrev pub opened_text : List ℕ → Result (List ℕ) CertFault
 opened_text text = format_reading text >>= (λ c. Ok (certificate_text (opened_certificate c)))
 
--- the list of a text, with the map's label table, and the certificate of a text are the minimal pair of the map of a text
-abbrev pub AreMinimalPair : Result MapModel MapFault → Result ListModel MapFault → Result CertificateModel CertFault → Type 0
+-- the list of a text, with the map's label table, and the certificate of a text are the minimal pair of the map of a
+-- text
+abbrev pub AreMinimalPair : Result MapModel MapFault → Result ListModel MapFault → Result CertificateModel CertFault
+    → Type 0
 AreMinimalPair (Ok m) (Ok l) (Ok c) = IsMinimalPair m (record l { table = m.table }) c
 AreMinimalPair _ _ _ = ⊥
 
 -- like `AreMinimalPair`, but with the label table of the text of the list
-abbrev pub AreMinimalAsRead : Result MapModel MapFault → Result ListModel MapFault → Result CertificateModel CertFault → Type 0
+abbrev pub AreMinimalAsRead : Result MapModel MapFault → Result ListModel MapFault → Result CertificateModel CertFault
+    → Type 0
 AreMinimalAsRead (Ok m) (Ok l) (Ok c) = IsMinimalPair m l c
 AreMinimalAsRead _ _ _ = ⊥
 
@@ -49,7 +52,8 @@ verdict_by l None = Ok (length l.prefixes)
 verdict_by l (Some fault) = Err fault
 
 -- the verdict of `check` on what texts represent, if none of them is faulty
-abbrev pub verdict_of : Result MapModel MapFault → Result ListModel MapFault → Result CertificateModel CertFault → Option (Result ℕ CheckFault)
+abbrev pub verdict_of : Result MapModel MapFault → Result ListModel MapFault → Result CertificateModel CertFault
+    → Option (Result ℕ CheckFault)
 verdict_of (Ok m) (Ok l) (Ok c) = Some (verdict_by l (first_fault m l c))
 verdict_of _ _ _ = None
 
@@ -109,4 +113,5 @@ nested_tree (suc count) = InnerNode (record { cost = 0; labels = [] }) (nested_t
 -- the second certificate of the page, in this format, with its chain opened
 abbrev pub last_opened : List ℕ → List ℕ
 last_opened format =
-    codes "flowlabel-cert " ++ format ++ codes " ipv4 2\nD\nX\n" ++ lines 31 (codes "n 1 0\nl 0\n") ++ codes "n 1 0 1\nl 0\nl 1\n"
+    codes "flowlabel-cert " ++ format ++ codes " ipv4 2\nD\nX\n" ++ lines 31 (codes "n 1 0\nl 0\n")
+    ++ codes "n 1 0 1\nl 0\nl 1\n"

@@ -87,7 +87,8 @@ pub data Stream : Type 0 where
 -- the exit status, and the text that is written to one of the streams, for the end of a run
 abbrev pub seen : Result Text RunFault → ℕ × Stream × Text
 seen (Ok out) = (exit_status_of (Ok out), StandardOutput, out)
-seen (Err (Usage (Help text))) = (exit_status_of {A = Text} (Err (Usage (Help text))), StandardOutput, string_bytes text)
+seen (Err (Usage (Help text))) =
+    (exit_status_of {A = Text} (Err (Usage (Help text))), StandardOutput, string_bytes text)
 seen (Err fault) = (exit_status_of {A = Text} (Err fault), StandardError, fault_text program_name fault)
 
 -- a name of a file on the command line
@@ -162,17 +163,20 @@ abbrev pub Recerts : Text → Text → Type 0
 Recerts text out = Writes (Recert (named (codes "cert.txt"))) (record empty { certificate = text }) out
 
 abbrev pub HasCertificateFault : Text → Text → Type 0
-HasCertificateFault text fault = Reports (Recert (named (codes "cert.txt"))) (record empty { certificate = text }) (codes "cert.txt: " ++ fault)
+HasCertificateFault text fault =
+    Reports (Recert (named (codes "cert.txt"))) (record empty { certificate = text }) (codes "cert.txt: " ++ fault)
 
 -- `check` writes this line, or reports this fault, for the texts of a map, a list and a certificate
 abbrev pub check_all : Command
 check_all = Check (named (codes "map.txt")) (named (codes "list.txt")) (named (codes "cert.txt"))
 
 abbrev pub Checks : Text → Text → Text → Text → Type 0
-Checks map list certificate line = Writes check_all (record empty { map = map; list = list; certificate = certificate }) line
+Checks map list certificate line =
+    Writes check_all (record empty { map = map; list = list; certificate = certificate }) line
 
 abbrev pub HasCheckFault : Text → Text → Text → Text → Type 0
-HasCheckFault map list certificate fault = Reports check_all (record empty { map = map; list = list; certificate = certificate }) fault
+HasCheckFault map list certificate fault =
+    Reports check_all (record empty { map = map; list = list; certificate = certificate }) fault
 
 -- `info` writes these numbers for a File of these hexadecimal digits, or reports this fault
 abbrev pub Counts : Text → Text → Type 0
@@ -245,12 +249,14 @@ map_read reader = of_files (file_with (codes "map.txt") reader) None None None
 
 -- a writer that has taken these bytes, whose last call was this one, and that has failed or not
 abbrev pub writer_of : Bool → LastCall → Text → OutputView
-writer_of failed last taken = record { failed = failed; last_call = last; flushes = flushes_by last; taken = taken; contents = None }
+writer_of failed last taken =
+    record { failed = failed; last_call = last; flushes = flushes_by last; taken = taken; contents = None }
 
 abbrev pub shown_of : OutputView → OutputView
 shown_of view = view
 
 -- The examples unfold `opened`, and with it the opaque definitions that are named here after `unfolding`.
 unfoldable pub opened : List ℕ → Result CertificateModel CertFault
-unfolding compacted_in definition_at digits field_at fields_at fits format_reading nodes_at template_record_at value_at values_at
+unfolding compacted_in definition_at digits field_at fields_at fits format_reading nodes_at template_record_at value_at
+    values_at
 opened text = format_reading text

@@ -13,7 +13,8 @@ flushes_by _ = 0
 
 -- a writer that has taken these bytes, whose last call was this one, and that has failed or not; it reports no contents
 abbrev pub writer : Bool → LastCall → List ℕ → OutputView
-writer failed last taken = record { failed = failed; last_call = last; flushes = flushes_by last; taken = taken; contents = None }
+writer failed last taken =
+    record { failed = failed; last_call = last; flushes = flushes_by last; taken = taken; contents = None }
 
 -- a writer that has taken no bytes, and has these contents
 abbrev pub holder : Option (List ℕ) → OutputView

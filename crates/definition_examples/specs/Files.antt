@@ -25,7 +25,8 @@ unfolding definition_at field_at fields_at fits template_record_at value_at valu
 opened bytes = file_reading bytes
 
 -- something of the messages of a File
-abbrev pub of_messages : {A : Type 0} → (List MessageView → A) → Result (List MessageView) ReadFault → Result A ReadFault
+abbrev pub of_messages : {A : Type 0} → (List MessageView → A) → Result (List MessageView) ReadFault
+    → Result A ReadFault
 of_messages part (Ok messages) = Ok (part messages)
 of_messages part (Err fault) = Err fault
 
@@ -49,17 +50,25 @@ abbrev pub rfc_message : List ℕ
 rfc_message = hex (codes "000a0098 00000000 00000000 00000001 0002001c 01000005 00080004 000c0004 000f0004 00020004 00010004 01000040 c000020c c00002fe c0000201 00001391 00518c81 c000021b c0000217 c0000202 000002ec 0005ef46 c0000238 c0000241 c0000203 00000005 00001986 00030018 01010003 0001008d 00040029 0002002a 00020000 01010014 00000001 015927d9 00000002 02b24fb2")
 
 abbrev pub rfc_flow_template : Template
-rfc_flow_template = record { id = 256; kind = Flow; scope_count = 0; fields = field 8 4 ∷ field 12 4 ∷ field 15 4 ∷ field 2 4 ∷ field 1 4 ∷ [] }
+rfc_flow_template =
+    record {
+      id = 256;
+      kind = Flow;
+      scope_count = 0;
+      fields = field 8 4 ∷ field 12 4 ∷ field 15 4 ∷ field 2 4 ∷ field 1 4 ∷ [];
+    }
 
 abbrev pub rfc_options_template : Template
-rfc_options_template = record { id = 257; kind = Options; scope_count = 1; fields = field 141 4 ∷ field 41 2 ∷ field 42 2 ∷ [] }
+rfc_options_template =
+    record { id = 257; kind = Options; scope_count = 1; fields = field 141 4 ∷ field 41 2 ∷ field 42 2 ∷ [] }
 
 abbrev pub rfc_flow : List ℕ → List ℕ → List ℕ → List ℕ → List ℕ → Record
 rfc_flow src dst hop packets octets =
     record { kind = Flow; fields = value 8 src ∷ value 12 dst ∷ value 15 hop ∷ value 2 packets ∷ value 1 octets ∷ [] }
 
 abbrev pub rfc_card : List ℕ → List ℕ → List ℕ → Record
-rfc_card card messages flows = record { kind = Options; fields = value 141 card ∷ value 41 messages ∷ value 42 flows ∷ [] }
+rfc_card card messages flows =
+    record { kind = Options; fields = value 141 card ∷ value 41 messages ∷ value 42 flows ∷ [] }
 
 abbrev pub rfc_decoded : MessageView
 rfc_decoded = record {
@@ -75,6 +84,7 @@ rfc_decoded = record {
       )
       ∷ Templates Options (Define rfc_options_template ∷ [])
       ∷ Values Options (
-      rfc_card (codes "00000001") (codes "0159") (codes "27d9") ∷ rfc_card (codes "00000002") (codes "02b2") (codes "4fb2") ∷ []
+      rfc_card (codes "00000001") (codes "0159") (codes "27d9")
+      ∷ rfc_card (codes "00000002") (codes "02b2") (codes "4fb2") ∷ []
       ) ∷ [];
 }

@@ -34,7 +34,8 @@ texts_of given = map (λ index. option_map (λ part. part.1) (find (λ part. pla
 
 -- whether a row passes the options given, with these labels of addresses, or the fault of the options
 abbrev pub passes_all : List (FilterOption × List ℕ) → Option Labelling → RowView → Result Bool FilterFault
-passes_all given labels row = filter_of (texts_of given) >>= (λ condition. Ok (row_passes condition (label_where labels) row))
+passes_all given labels row =
+    filter_of (texts_of given) >>= (λ condition. Ok (row_passes condition (label_where labels) row))
 
 abbrev pub passes : FilterOption → List ℕ → RowView → Result Bool FilterFault
 passes option text row = passes_all ((option, text) ∷ []) None row

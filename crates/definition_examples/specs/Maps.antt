@@ -13,11 +13,13 @@ use Rattle.label_lookup.specs.Labelling.{Labelling, label_by, labelling_of_list,
 
 -- the label of the address that a text represents, under the map that another text represents
 abbrev pub under_map : List ℕ → List ℕ → Result (Option Label) MapFault
-under_map text address = map_reading text >>= (λ m. Ok (option_and_then (label_by (labelling_of_map m)) (address_of address)))
+under_map text address =
+    map_reading text >>= (λ m. Ok (option_and_then (label_by (labelling_of_map m)) (address_of address)))
 
 -- like `under_map`, but under a list
 abbrev pub under_list : List ℕ → List ℕ → Result (Option Label) MapFault
-under_list text address = list_reading text >>= (λ l. Ok (option_and_then (label_by (labelling_of_list l)) (address_of address)))
+under_list text address =
+    list_reading text >>= (λ l. Ok (option_and_then (label_by (labelling_of_list l)) (address_of address)))
 
 -- a part of the map, or of the list, that a text represents
 abbrev pub of_map : {A : Type 0} → (MapModel → A) → List ℕ → Result A MapFault

@@ -25,7 +25,8 @@ unlabelled = None
 -- what `uniq` prints of rows, by the text of `--fields`, sorted or not, and in columns or not
 abbrev pub groups_in : Bool → List ℕ → Bool → Option Labelling → List RowView → Result (List ℕ) KeyFault
 groups_in columns names sorted labels rows =
-    keys_reading names >>= (λ fields. Ok (groups_table fields columns labels (row_groups (label_where labels) fields sorted rows)))
+    keys_reading names >>= (λ fields.
+    Ok (groups_table fields columns labels (row_groups (label_where labels) fields sorted rows)))
 
 abbrev pub uniq : List ℕ → Bool → Option Labelling → List RowView → Result (List ℕ) KeyFault
 uniq = groups_in false
@@ -33,7 +34,9 @@ uniq = groups_in false
 -- what `uniq` prints of the groups of parts of the rows, merged
 abbrev pub uniq_of_parts : List ℕ → Bool → Option Labelling → List (List RowView) → Result (List ℕ) KeyFault
 uniq_of_parts names sorted labels parts =
-    keys_reading names >>= (λ fields. Ok (groups_text fields (shown_groups sorted (merged (flat_map (λ rows. shown_groups sorted (groups_of fields (label_where labels) rows)) parts))) false))
+    keys_reading names >>= (λ fields. Ok (groups_text fields
+    (shown_groups sorted (merged (flat_map (λ rows.
+    shown_groups sorted (groups_of fields (label_where labels) rows)) parts))) false))
 
 -- what `rows` prints of rows without labels
 abbrev pub rows : Bool → List RowView → List ℕ
@@ -41,7 +44,8 @@ rows columns all = rows_text all None columns
 
 -- what `info` prints of messages with these sets
 abbrev pub info : List (List Set) → List ℕ
-info messages = info_text (counts_of (map (λ sets. record { export_time = 0; sequence = 0; domain = 1; sets = sets }) messages))
+info messages =
+    info_text (counts_of (map (λ sets. record { export_time = 0; sequence = 0; domain = 1; sets = sets }) messages))
 
 -- the list that a text represents, printed
 abbrev pub printed_list : List ℕ → Result (List ℕ) MapFault

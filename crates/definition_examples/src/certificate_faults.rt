@@ -111,7 +111,8 @@ pub fn c3_bad_node()
     ensures a_carriage_return { format_reading (head ++ codes "n 2 0\nn 1 0 1\nl 0\nl 1\nn 1 0 2\nl 0\nl 2\r\n")
         ≡ Err (at_certificate_line BadNode 12) }
     ensures no_labels { format_reading (codes "flowlabel-cert 1 ipv4 0\nl 0\n") ≡ Err (at_certificate_line BadNode 2) }
-    ensures a_set_that_descends_from_2 { format_reading (codes "flowlabel-cert 1 ipv4 3\nA\nB\nC\nn 1 2 1\nl 0\nl 1\n") ≡ Err (at_certificate_line BadNode 5) }
+    ensures a_set_that_descends_from_2 { format_reading (codes "flowlabel-cert 1 ipv4 3\nA\nB\nC\nn 1 2 1\nl 0\nl 1\n")
+        ≡ Err (at_certificate_line BadNode 5) }
 {}
 
 /// The line of a chain is malformed, or the format has no chains.
@@ -137,8 +138,10 @@ pub fn c3_bad_chain()
         ≡ Err (at_certificate_line BadNode 3) }
     ensures a_cost_of_a_chain_that_is_too_large { format_reading
         (codes "flowlabel-cert 2 ipv4 1\nA\nc 4294967296 1 0 0\nl 0\n") ≡ Err (at_certificate_line BadNode 3) }
-    ensures a_set_that_descends { format_reading (codes "flowlabel-cert 2 ipv4 3\nA\nB\nC\nc 1 11 0 2 1\nl 1\n") ≡ Err (at_certificate_line BadNode 5) }
-    ensures a_label_of_a_set_that_is_missing { format_reading (codes "flowlabel-cert 2 ipv4 1\nA\nc 1 11 0 1\nl 0\n") ≡ Err (at_certificate_line BadNode 3) }
+    ensures a_set_that_descends { format_reading (codes "flowlabel-cert 2 ipv4 3\nA\nB\nC\nc 1 11 0 2 1\nl 1\n")
+        ≡ Err (at_certificate_line BadNode 5) }
+    ensures a_label_of_a_set_that_is_missing { format_reading (codes "flowlabel-cert 2 ipv4 1\nA\nc 1 11 0 1\nl 0\n")
+        ≡ Err (at_certificate_line BadNode 3) }
 {}
 
 /// An inner node, or a digit of a well-formed chain, halves a block of one address.

@@ -14,11 +14,24 @@ ghost use Rattle.std.specs.Prelude.{◌≡◌, ◌∷◌, [], codes, false, Ok, 
 /// FORMATS.md, "Certificates" and "Chains".
 pub fn a_text_represents_a_certificate()
     ensures the_first_of_the_page { format_reading quarters
-        ≡ Ok
-        (record { format = 1; version = V4; table = codes "A" ∷ codes "B" ∷ codes "C" ∷ codes "UNKNOWN" ∷ []; root = (InnerNode (record { cost = 2; labels = codes "A" ∷ [] }) (InnerNode (record { cost = 1; labels = codes "A" ∷ codes "B" ∷ [] }) (LeafNode (codes "A")) (LeafNode (codes "B"))) (InnerNode (record { cost = 1; labels = codes "A" ∷ codes "C" ∷ [] }) (LeafNode (codes "A")) (LeafNode (codes "C")))) }) }
+        ≡ Ok (record {
+          format = 1;
+          version = V4;
+          table = codes "A" ∷ codes "B" ∷ codes "C" ∷ codes "UNKNOWN" ∷ [];
+          root = (InnerNode (record { cost = 2; labels = codes "A" ∷ [] })
+              (InnerNode (record { cost = 1; labels = codes "A" ∷ codes "B" ∷ [] }) (LeafNode (codes "A"))
+              (LeafNode (codes "B")))
+              (InnerNode (record { cost = 1; labels = codes "A" ∷ codes "C" ∷ [] }) (LeafNode (codes "A"))
+              (LeafNode (codes "C"))));
+        }) }
     ensures the_second_of_the_page { format_reading last
-        ≡ Ok
-        (record { format = 2; version = V4; table = codes "D" ∷ codes "X" ∷ []; root = (ChainNode (record { cost = 1; labels = codes "D" ∷ [] }) (replicate 32 true) (codes "D") (LeafNode (codes "X"))) }) }
+        ≡ Ok (record {
+          format = 2;
+          version = V4;
+          table = codes "D" ∷ codes "X" ∷ [];
+          root = (ChainNode (record { cost = 1; labels = codes "D" ∷ [] }) (replicate 32 true) (codes "D")
+              (LeafNode (codes "X")));
+        }) }
     ensures one_leaf { format_reading (codes "flowlabel-cert 1 ipv4 1\nA\nl 0\n")
         ≡ Ok (record { format = 1; version = V4; table = codes "A" ∷ []; root = (LeafNode (codes "A")) }) }
     ensures of_ipv6 { format_reading (codes "flowlabel-cert 1 ipv6 2\nA\nB\nl 1\n")
@@ -26,27 +39,58 @@ pub fn a_text_represents_a_certificate()
     ensures format_2_without_chains { format_reading (codes "flowlabel-cert 2 ipv4 1\nA\nl 0\n")
         ≡ Ok (record { format = 2; version = V4; table = codes "A" ∷ []; root = (LeafNode (codes "A")) }) }
     ensures an_empty_set { format_reading (codes "flowlabel-cert 1 ipv4 2\nA\nB\nn 0\nl 0\nl 1\n")
-        ≡ Ok
-        (record { format = 1; version = V4; table = codes "A" ∷ codes "B" ∷ []; root = (InnerNode (record { cost = 0; labels = [] }) (LeafNode (codes "A")) (LeafNode (codes "B"))) }) }
+        ≡ Ok (record {
+          format = 1;
+          version = V4;
+          table = codes "A" ∷ codes "B" ∷ [];
+          root = (InnerNode (record { cost = 0; labels = [] }) (LeafNode (codes "A")) (LeafNode (codes "B")));
+        }) }
     ensures the_greatest_cost { format_reading (codes "flowlabel-cert 1 ipv4 2\nA\nB\nn 4294967295 0 1\nl 0\nl 1\n")
-        ≡ Ok
-        (record { format = 1; version = V4; table = codes "A" ∷ codes "B" ∷ []; root = (InnerNode (record { cost = 4294967295; labels = codes "A" ∷ codes "B" ∷ [] }) (LeafNode (codes "A")) (LeafNode (codes "B"))) }) }
+        ≡ Ok (record {
+          format = 1;
+          version = V4;
+          table = codes "A" ∷ codes "B" ∷ [];
+          root = (InnerNode (record { cost = 4294967295; labels = codes "A" ∷ codes "B" ∷ [] }) (LeafNode (codes "A"))
+              (LeafNode (codes "B")));
+        }) }
     ensures a_label_of_digits { format_reading (codes "flowlabel-cert 1 ipv4 1\n5\nl 0\n")
         ≡ Ok (record { format = 1; version = V4; table = codes "5" ∷ []; root = (LeafNode (codes "5")) }) }
     ensures a_label_with_a_blank { format_reading (codes "flowlabel-cert 1 ipv4 1\nGuest network\nl 0\n")
-        ≡ Ok
-        (record { format = 1; version = V4; table = codes "Guest network" ∷ []; root = (LeafNode (codes "Guest network")) }) }
+        ≡ Ok (record {
+          format = 1;
+          version = V4;
+          table = codes "Guest network" ∷ [];
+          root = (LeafNode (codes "Guest network"));
+        }) }
     ensures the_lower_half_first { format_reading
         (codes "flowlabel-cert 1 ipv4 3\nA\nB\nC\nn 2 0 1 2\nn 1 0 1\nl 0\nl 1\nl 2\n")
-        ≡ Ok
-        (record { format = 1; version = V4; table = codes "A" ∷ codes "B" ∷ codes "C" ∷ []; root = (InnerNode (record { cost = 2; labels = codes "A" ∷ codes "B" ∷ codes "C" ∷ [] }) (InnerNode (record { cost = 1; labels = codes "A" ∷ codes "B" ∷ [] }) (LeafNode (codes "A")) (LeafNode (codes "B"))) (LeafNode (codes "C"))) }) }
+        ≡ Ok (record {
+          format = 1;
+          version = V4;
+          table = codes "A" ∷ codes "B" ∷ codes "C" ∷ [];
+          root = (InnerNode (record { cost = 2; labels = codes "A" ∷ codes "B" ∷ codes "C" ∷ [] })
+              (InnerNode (record { cost = 1; labels = codes "A" ∷ codes "B" ∷ [] }) (LeafNode (codes "A"))
+              (LeafNode (codes "B")))
+              (LeafNode (codes "C")));
+        }) }
     ensures both_bits { format_reading (codes "flowlabel-cert 2 ipv4 2\nA\nB\nc 1 01 0 0 1\nl 1\n")
-        ≡ Ok
-        (record { format = 2; version = V4; table = codes "A" ∷ codes "B" ∷ []; root = (ChainNode (record { cost = 1; labels = codes "A" ∷ codes "B" ∷ [] }) (false ∷ true ∷ []) (codes "A") (LeafNode (codes "B"))) }) }
+        ≡ Ok (record {
+          format = 2;
+          version = V4;
+          table = codes "A" ∷ codes "B" ∷ [];
+          root = (ChainNode (record { cost = 1; labels = codes "A" ∷ codes "B" ∷ [] }) (false ∷ true ∷ []) (codes "A")
+              (LeafNode (codes "B")));
+        }) }
     ensures a_chain_below_an_inner_node { format_reading
         (codes "flowlabel-cert 2 ipv4 2\nA\nB\nn 1 0\nl 0\nc 1 10 0 0\nl 1\n")
-        ≡ Ok
-        (record { format = 2; version = V4; table = codes "A" ∷ codes "B" ∷ []; root = (InnerNode (record { cost = 1; labels = codes "A" ∷ [] }) (LeafNode (codes "A")) (ChainNode (record { cost = 1; labels = codes "A" ∷ [] }) (true ∷ false ∷ []) (codes "A") (LeafNode (codes "B")))) }) }
+        ≡ Ok (record {
+          format = 2;
+          version = V4;
+          table = codes "A" ∷ codes "B" ∷ [];
+          root = (InnerNode (record { cost = 1; labels = codes "A" ∷ [] }) (LeafNode (codes "A"))
+              (ChainNode (record { cost = 1; labels = codes "A" ∷ [] }) (true ∷ false ∷ []) (codes "A")
+              (LeafNode (codes "B"))));
+        }) }
     ensures nodes_of_32_levels { format_reading (nested (codes "flowlabel-cert 1 ipv4 1\n") 32)
         ≡ Ok (record { format = 1; version = V4; table = codes "A" ∷ []; root = nested_tree 32 }) }
     ensures nodes_of_128_levels { format_reading (nested (codes "flowlabel-cert 1 ipv6 1\n") 128)
@@ -56,11 +100,24 @@ pub fn a_text_represents_a_certificate()
 /// The same texts, written.
 pub fn a_certificate_has_a_text()
     ensures the_first_of_the_page { certificate_text
-        (record { format = 1; version = V4; table = codes "A" ∷ codes "B" ∷ codes "C" ∷ codes "UNKNOWN" ∷ []; root = (InnerNode (record { cost = 2; labels = codes "A" ∷ [] }) (InnerNode (record { cost = 1; labels = codes "A" ∷ codes "B" ∷ [] }) (LeafNode (codes "A")) (LeafNode (codes "B"))) (InnerNode (record { cost = 1; labels = codes "A" ∷ codes "C" ∷ [] }) (LeafNode (codes "A")) (LeafNode (codes "C")))) })
-        ≡ quarters }
+        (record {
+          format = 1;
+          version = V4;
+          table = codes "A" ∷ codes "B" ∷ codes "C" ∷ codes "UNKNOWN" ∷ [];
+          root = (InnerNode (record { cost = 2; labels = codes "A" ∷ [] })
+              (InnerNode (record { cost = 1; labels = codes "A" ∷ codes "B" ∷ [] }) (LeafNode (codes "A"))
+              (LeafNode (codes "B")))
+              (InnerNode (record { cost = 1; labels = codes "A" ∷ codes "C" ∷ [] }) (LeafNode (codes "A"))
+              (LeafNode (codes "C"))));
+        }) ≡ quarters }
     ensures the_second_of_the_page { certificate_text
-        (record { format = 2; version = V4; table = codes "D" ∷ codes "X" ∷ []; root = (ChainNode (record { cost = 1; labels = codes "D" ∷ [] }) (replicate 32 true) (codes "D") (LeafNode (codes "X"))) })
-        ≡ last }
+        (record {
+          format = 2;
+          version = V4;
+          table = codes "D" ∷ codes "X" ∷ [];
+          root = (ChainNode (record { cost = 1; labels = codes "D" ∷ [] }) (replicate 32 true) (codes "D")
+              (LeafNode (codes "X")));
+        }) ≡ last }
     ensures one_leaf { certificate_text
         (record { format = 1; version = V4; table = codes "A" ∷ []; root = (LeafNode (codes "A")) })
         ≡ codes "flowlabel-cert 1 ipv4 1\nA\nl 0\n" }
@@ -71,25 +128,62 @@ pub fn a_certificate_has_a_text()
         (record { format = 2; version = V4; table = codes "A" ∷ []; root = (LeafNode (codes "A")) })
         ≡ codes "flowlabel-cert 2 ipv4 1\nA\nl 0\n" }
     ensures an_empty_set { certificate_text
-        (record { format = 1; version = V4; table = codes "A" ∷ codes "B" ∷ []; root = (InnerNode (record { cost = 0; labels = [] }) (LeafNode (codes "A")) (LeafNode (codes "B"))) })
+        (record {
+          format = 1;
+          version = V4;
+          table = codes "A" ∷ codes "B" ∷ [];
+          root = (InnerNode (record { cost = 0; labels = [] }) (LeafNode (codes "A")) (LeafNode (codes "B")));
+        })
         ≡ codes "flowlabel-cert 1 ipv4 2\nA\nB\nn 0\nl 0\nl 1\n" }
     ensures the_greatest_cost { certificate_text
-        (record { format = 1; version = V4; table = codes "A" ∷ codes "B" ∷ []; root = (InnerNode (record { cost = 4294967295; labels = codes "A" ∷ codes "B" ∷ [] }) (LeafNode (codes "A")) (LeafNode (codes "B"))) })
+        (record {
+          format = 1;
+          version = V4;
+          table = codes "A" ∷ codes "B" ∷ [];
+          root = (InnerNode (record { cost = 4294967295; labels = codes "A" ∷ codes "B" ∷ [] }) (LeafNode (codes "A"))
+              (LeafNode (codes "B")));
+        })
         ≡ codes "flowlabel-cert 1 ipv4 2\nA\nB\nn 4294967295 0 1\nl 0\nl 1\n" }
     ensures a_label_of_digits { certificate_text
         (record { format = 1; version = V4; table = codes "5" ∷ []; root = (LeafNode (codes "5")) })
         ≡ codes "flowlabel-cert 1 ipv4 1\n5\nl 0\n" }
     ensures a_label_with_a_blank { certificate_text
-        (record { format = 1; version = V4; table = codes "Guest network" ∷ []; root = (LeafNode (codes "Guest network")) })
+        (record {
+          format = 1;
+          version = V4;
+          table = codes "Guest network" ∷ [];
+          root = (LeafNode (codes "Guest network"));
+        })
         ≡ codes "flowlabel-cert 1 ipv4 1\nGuest network\nl 0\n" }
     ensures the_lower_half_first { certificate_text
-        (record { format = 1; version = V4; table = codes "A" ∷ codes "B" ∷ codes "C" ∷ []; root = (InnerNode (record { cost = 2; labels = codes "A" ∷ codes "B" ∷ codes "C" ∷ [] }) (InnerNode (record { cost = 1; labels = codes "A" ∷ codes "B" ∷ [] }) (LeafNode (codes "A")) (LeafNode (codes "B"))) (LeafNode (codes "C"))) })
+        (record {
+          format = 1;
+          version = V4;
+          table = codes "A" ∷ codes "B" ∷ codes "C" ∷ [];
+          root = (InnerNode (record { cost = 2; labels = codes "A" ∷ codes "B" ∷ codes "C" ∷ [] })
+              (InnerNode (record { cost = 1; labels = codes "A" ∷ codes "B" ∷ [] }) (LeafNode (codes "A"))
+              (LeafNode (codes "B")))
+              (LeafNode (codes "C")));
+        })
         ≡ codes "flowlabel-cert 1 ipv4 3\nA\nB\nC\nn 2 0 1 2\nn 1 0 1\nl 0\nl 1\nl 2\n" }
     ensures both_bits { certificate_text
-        (record { format = 2; version = V4; table = codes "A" ∷ codes "B" ∷ []; root = (ChainNode (record { cost = 1; labels = codes "A" ∷ codes "B" ∷ [] }) (false ∷ true ∷ []) (codes "A") (LeafNode (codes "B"))) })
+        (record {
+          format = 2;
+          version = V4;
+          table = codes "A" ∷ codes "B" ∷ [];
+          root = (ChainNode (record { cost = 1; labels = codes "A" ∷ codes "B" ∷ [] }) (false ∷ true ∷ []) (codes "A")
+              (LeafNode (codes "B")));
+        })
         ≡ codes "flowlabel-cert 2 ipv4 2\nA\nB\nc 1 01 0 0 1\nl 1\n" }
     ensures a_chain_below_an_inner_node { certificate_text
-        (record { format = 2; version = V4; table = codes "A" ∷ codes "B" ∷ []; root = (InnerNode (record { cost = 1; labels = codes "A" ∷ [] }) (LeafNode (codes "A")) (ChainNode (record { cost = 1; labels = codes "A" ∷ [] }) (true ∷ false ∷ []) (codes "A") (LeafNode (codes "B")))) })
+        (record {
+          format = 2;
+          version = V4;
+          table = codes "A" ∷ codes "B" ∷ [];
+          root = (InnerNode (record { cost = 1; labels = codes "A" ∷ [] }) (LeafNode (codes "A"))
+              (ChainNode (record { cost = 1; labels = codes "A" ∷ [] }) (true ∷ false ∷ []) (codes "A")
+              (LeafNode (codes "B"))));
+        })
         ≡ codes "flowlabel-cert 2 ipv4 2\nA\nB\nn 1 0\nl 0\nc 1 10 0 0\nl 1\n" }
 {}
 
@@ -139,16 +233,26 @@ pub fn chains_are_opened()
 
 /// DEFINITIONS.md, "Certificates": the cost of the entries, and the labels that the block may inherit at this cost.
 pub fn a_claim_of_two_halves_is_exact()
-    ensures with_a_common_label { exact_claim (record { cost = 2; labels = codes "A" ∷ codes "B" ∷ [] }) (record { cost = 5; labels = codes "C" ∷ codes "A" ∷ [] }) ≡ record { cost = 7; labels = codes "A" ∷ [] } }
-    ensures without_a_common_label { exact_claim (record { cost = 2; labels = codes "A" ∷ [] }) (record { cost = 5; labels = codes "B" ∷ codes "C" ∷ [] }) ≡ record { cost = 8; labels = codes "A" ∷ codes "B" ∷ codes "C" ∷ [] } }
-    ensures of_two_common_labels { exact_claim (record { cost = 2; labels = codes "B" ∷ codes "A" ∷ codes "C" ∷ [] }) (record { cost = 0; labels = codes "A" ∷ codes "B" ∷ [] }) ≡ record { cost = 2; labels = codes "B" ∷ codes "A" ∷ [] } }
+    ensures with_a_common_label { exact_claim (record { cost = 2; labels = codes "A" ∷ codes "B" ∷ [] })
+        (record { cost = 5; labels = codes "C" ∷ codes "A" ∷ [] })
+        ≡ record { cost = 7; labels = codes "A" ∷ [] } }
+    ensures without_a_common_label { exact_claim (record { cost = 2; labels = codes "A" ∷ [] })
+        (record { cost = 5; labels = codes "B" ∷ codes "C" ∷ [] })
+        ≡ record { cost = 8; labels = codes "A" ∷ codes "B" ∷ codes "C" ∷ [] } }
+    ensures of_two_common_labels { exact_claim (record { cost = 2; labels = codes "B" ∷ codes "A" ∷ codes "C" ∷ [] })
+        (record { cost = 0; labels = codes "A" ∷ codes "B" ∷ [] })
+        ≡ record { cost = 2; labels = codes "B" ∷ codes "A" ∷ [] } }
 {}
 
 /// DEFINITIONS.md, "Chains".
 pub fn a_chain_has_an_exact_claim()
-    ensures the_end_has_the_side_label { chain_claim 2 (codes "A") (record { cost = 3; labels = codes "B" ∷ codes "A" ∷ [] }) ≡ record { cost = 3; labels = codes "A" ∷ [] } }
-    ensures of_one_bit { chain_claim 1 (codes "A") (record { cost = 3; labels = codes "B" ∷ codes "C" ∷ [] }) ≡ record { cost = 4; labels = codes "A" ∷ codes "B" ∷ codes "C" ∷ [] } }
-    ensures of_two_bits { chain_claim 2 (codes "A") (record { cost = 3; labels = codes "B" ∷ codes "C" ∷ [] }) ≡ record { cost = 4; labels = codes "A" ∷ [] } }
+    ensures the_end_has_the_side_label { chain_claim 2 (codes "A")
+        (record { cost = 3; labels = codes "B" ∷ codes "A" ∷ [] })
+        ≡ record { cost = 3; labels = codes "A" ∷ [] } }
+    ensures of_one_bit { chain_claim 1 (codes "A") (record { cost = 3; labels = codes "B" ∷ codes "C" ∷ [] })
+        ≡ record { cost = 4; labels = codes "A" ∷ codes "B" ∷ codes "C" ∷ [] } }
+    ensures of_two_bits { chain_claim 2 (codes "A") (record { cost = 3; labels = codes "B" ∷ codes "C" ∷ [] })
+        ≡ record { cost = 4; labels = codes "A" ∷ [] } }
     ensures the_upper_half_is_chosen { chosen_half true 5 ≡ 11 }
     ensures the_lower_half_is_chosen { chosen_half false 5 ≡ 10 }
     ensures beside_the_upper_half { side_half true 5 ≡ 10 }
@@ -157,6 +261,11 @@ pub fn a_chain_has_an_exact_claim()
 
 /// FORMATS.md, "Chains".
 pub fn a_compact_certificate_has_format_2()
-    ensures of_a_leaf { compact (record { format = 1; version = V4; table = codes "A" ∷ []; root = LeafNode (codes "A") }) ≡ record { format = 2; version = V4; table = codes "A" ∷ []; root = LeafNode (codes "A") } }
-    ensures lines_of_a_tree { line_count (InnerNode (record { cost = 1; labels = [] }) (LeafNode (codes "A")) (InnerNode (record { cost = 1; labels = [] }) (LeafNode (codes "A")) (ChainNode (record { cost = 1; labels = [] }) (true ∷ true ∷ []) (codes "A") (LeafNode (codes "B"))))) ≡ 6 }
+    ensures of_a_leaf { compact
+        (record { format = 1; version = V4; table = codes "A" ∷ []; root = LeafNode (codes "A") })
+        ≡ record { format = 2; version = V4; table = codes "A" ∷ []; root = LeafNode (codes "A") } }
+    ensures lines_of_a_tree { line_count
+        (InnerNode (record { cost = 1; labels = [] }) (LeafNode (codes "A"))
+        (InnerNode (record { cost = 1; labels = [] }) (LeafNode (codes "A"))
+        (ChainNode (record { cost = 1; labels = [] }) (true ∷ true ∷ []) (codes "A") (LeafNode (codes "B"))))) ≡ 6 }
 {}

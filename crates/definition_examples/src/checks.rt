@@ -23,7 +23,11 @@ pub fn a_map_has_a_minimal_pair()
     ensures the_first_label_of_the_table_is_chosen { AreMinimalPair (map_reading (codes "128.0.0.0/1 B\n0.0.0.0/1 A\n"))
         (list_reading (codes "0.0.0.0/0 B\n0.0.0.0/1 A\n"))
         (format_reading (codes "flowlabel-cert 1 ipv4 3\nB\nA\nUNKNOWN\nn 1 0 1\nl 1\nl 0\n")) }
-    ensures of_seven_nodes { AreMinimalPair (map_reading (codes "192.0.0.0/3 C\n224.0.0.0/3 A\n128.0.0.0/2 C\n0.0.0.0/2 B\n64.0.0.0/2 A\n")) (list_reading (codes "0.0.0.0/0 C\n0.0.0.0/1 A\n0.0.0.0/2 B\n224.0.0.0/3 A\n")) (format_reading (codes "flowlabel-cert 1 ipv4 4\nC\nA\nB\nUNKNOWN\nn 3 0 1 2\nn 1 1 2\nl 2\nl 1\nn 1 0\nl 0\nn 1 0 1\nl 0\nl 1\n")) }
+    ensures of_seven_nodes { AreMinimalPair
+        (map_reading (codes "192.0.0.0/3 C\n224.0.0.0/3 A\n128.0.0.0/2 C\n0.0.0.0/2 B\n64.0.0.0/2 A\n"))
+        (list_reading (codes "0.0.0.0/0 C\n0.0.0.0/1 A\n0.0.0.0/2 B\n224.0.0.0/3 A\n"))
+        (format_reading
+        (codes "flowlabel-cert 1 ipv4 4\nC\nA\nB\nUNKNOWN\nn 3 0 1 2\nn 1 1 2\nl 2\nl 1\nn 1 0\nl 0\nn 1 0 1\nl 0\nl 1\n")) }
 {}
 
 /// The certificates of the page are accepted, and others that claim no more than the exact claims.
@@ -120,7 +124,9 @@ pub fn k3_list_differs()
         (codes "0.0.0.0/0 D\n") last ≡ refused ListDiffers 2 }
     ensures only_a_part { verdict (codes "") (codes "10.0.0.0/8 UNKNOWN\n")
         (codes "flowlabel-cert 1 ipv4 1\nUNKNOWN\nl 0\n") ≡ refused ListDiffers 1 }
-    ensures the_path_of_a_chain_before_its_claim { verdict last_map (codes "0.0.0.0/0 D\n") (codes "flowlabel-cert 2 ipv4 2\nD\nX\nc 2 11111111111111111111111111111111 0 0\nl 1\n") ≡ refused ListDiffers 2 }
+    ensures the_path_of_a_chain_before_its_claim { verdict last_map (codes "0.0.0.0/0 D\n")
+        (codes "flowlabel-cert 2 ipv4 2\nD\nX\nc 2 11111111111111111111111111111111 0 0\nl 1\n")
+        ≡ refused ListDiffers 2 }
 {}
 
 /// A node claims the exact cost, but its set lacks a label of the exact set.
@@ -200,18 +206,26 @@ pub fn a_node_has_its_number()
 
 /// FORMATS.md, "What `check` reports": K4 and K5.
 pub fn a_claim_is_compared_with_the_exact_one()
-    ensures a_lower_cost_needs_no_label { claim_fault (record { cost = 1; labels = [] }) (record { cost = 2; labels = codes "A" ∷ [] }) ≡ None }
-    ensures the_same_cost_needs_each_label { claim_fault (record { cost = 2; labels = codes "A" ∷ [] }) (record { cost = 2; labels = codes "A" ∷ codes "B" ∷ [] }) ≡ Some SetTooSmall }
-    ensures a_higher_cost { claim_fault (record { cost = 3; labels = codes "A" ∷ [] }) (record { cost = 2; labels = codes "A" ∷ [] }) ≡ Some CostTooHigh }
+    ensures a_lower_cost_needs_no_label { claim_fault (record { cost = 1; labels = [] })
+        (record { cost = 2; labels = codes "A" ∷ [] }) ≡ None }
+    ensures the_same_cost_needs_each_label { claim_fault (record { cost = 2; labels = codes "A" ∷ [] })
+        (record { cost = 2; labels = codes "A" ∷ codes "B" ∷ [] }) ≡ Some SetTooSmall }
+    ensures a_higher_cost { claim_fault (record { cost = 3; labels = codes "A" ∷ [] })
+        (record { cost = 2; labels = codes "A" ∷ [] }) ≡ Some CostTooHigh }
 {}
 
 /// FORMATS.md, "Printed texts": the entries that `shrink` prints.
 pub fn the_entries_of_a_list_have_an_order()
-    ensures by_their_start { begins_before (record { start = 1; bits = 32; label = [] }) (record { start = 2; bits = 31; label = [] }) ≡ true }
-    ensures not_by_their_length { begins_before (record { start = 2; bits = 31; label = [] }) (record { start = 1; bits = 32; label = [] }) ≡ false }
-    ensures then_by_their_length { begins_before (record { start = 0; bits = 1; label = [] }) (record { start = 0; bits = 2; label = [] }) ≡ true }
-    ensures the_longer_one_later { begins_before (record { start = 0; bits = 2; label = [] }) (record { start = 0; bits = 1; label = [] }) ≡ false }
-    ensures not_before_itself { begins_before (record { start = 0; bits = 1; label = [] }) (record { start = 0; bits = 1; label = [] }) ≡ false }
+    ensures by_their_start { begins_before (record { start = 1; bits = 32; label = [] })
+        (record { start = 2; bits = 31; label = [] }) ≡ true }
+    ensures not_by_their_length { begins_before (record { start = 2; bits = 31; label = [] })
+        (record { start = 1; bits = 32; label = [] }) ≡ false }
+    ensures then_by_their_length { begins_before (record { start = 0; bits = 1; label = [] })
+        (record { start = 0; bits = 2; label = [] }) ≡ true }
+    ensures the_longer_one_later { begins_before (record { start = 0; bits = 2; label = [] })
+        (record { start = 0; bits = 1; label = [] }) ≡ false }
+    ensures not_before_itself { begins_before (record { start = 0; bits = 1; label = [] })
+        (record { start = 0; bits = 1; label = [] }) ≡ false }
 {}
 
 /// RFC 4632, section 3.1: a block has no bits beyond its length.
@@ -223,38 +237,82 @@ pub fn an_entry_has_a_block()
     ensures no_address { HasBlock 32 (record { start = 0x1_0000_0000; bits = 8; label = [] }) → ⊥ }
     ensures host_bits { HasBlock 32 (record { start = 0x0a00_0001; bits = 8; label = [] }) → ⊥ }
     ensures no_entry_is_in_order { IsInOrder [] }
-    ensures two_in_order { IsInOrder ((record { start = 0; bits = 1; label = [] }) ∷ (record { start = 0; bits = 2; label = [] }) ∷ []) }
-    ensures the_later_first { IsInOrder ((record { start = 0; bits = 2; label = [] }) ∷ (record { start = 0; bits = 1; label = [] }) ∷ []) → ⊥ }
-    ensures the_last_two { IsInOrder ((record { start = 0; bits = 1; label = [] }) ∷ (record { start = 2; bits = 2; label = [] }) ∷ (record { start = 1; bits = 2; label = [] }) ∷ []) → ⊥ }
+    ensures two_in_order { IsInOrder
+        ((record { start = 0; bits = 1; label = [] }) ∷ (record { start = 0; bits = 2; label = [] }) ∷ []) }
+    ensures the_later_first { IsInOrder
+        ((record { start = 0; bits = 2; label = [] }) ∷ (record { start = 0; bits = 1; label = [] }) ∷ []) → ⊥ }
+    ensures the_last_two { IsInOrder
+        ((record { start = 0; bits = 1; label = [] }) ∷ (record { start = 2; bits = 2; label = [] })
+        ∷ (record { start = 1; bits = 2; label = [] }) ∷ []) → ⊥ }
 {}
 
 /// DEFINITIONS.md, "Minimal pairs".
 pub fn the_first_label_of_the_table_is_chosen()
     ensures of_a_set { least_label (codes "B" ∷ codes "A" ∷ []) (codes "A" ∷ codes "B" ∷ []) ≡ codes "B" }
     ensures of_a_set_that_the_table_lacks { least_label (codes "C" ∷ []) (codes "A" ∷ codes "B" ∷ []) ≡ codes "A" }
-    ensures the_inherited_label_is_passed_on { handed_on (codes "A" ∷ codes "B" ∷ []) (codes "A" ∷ codes "B" ∷ []) (Some (codes "B")) ≡ Some (codes "B") }
-    ensures otherwise_the_first_of_the_table { handed_on (codes "B" ∷ codes "A" ∷ []) (codes "A" ∷ codes "B" ∷ []) (Some (codes "C")) ≡ Some (codes "B") }
-    ensures an_entry_with_it { own_entry 32 (codes "B" ∷ codes "A" ∷ []) (codes "A" ∷ codes "B" ∷ []) None 1 1 ≡ record { start = 0x8000_0000; bits = 1; label = codes "B" } ∷ [] }
-    ensures entries_of_two_halves { entries_of 32 (codes "B" ∷ codes "A" ∷ []) (InnerNode (record { cost = 1; labels = codes "A" ∷ codes "B" ∷ [] }) (LeafNode (codes "A")) (LeafNode (codes "B"))) None 1 1 ≡ record { start = 0x8000_0000; bits = 1; label = codes "B" } ∷ record { start = 0x8000_0000; bits = 2; label = codes "A" } ∷ [] }
-    ensures a_set_in_the_order_of_the_table { in_table_order (codes "C" ∷ codes "A" ∷ []) (record { cost = 3; labels = codes "A" ∷ codes "X" ∷ codes "C" ∷ [] }) ≡ record { cost = 3; labels = codes "C" ∷ codes "A" ∷ codes "X" ∷ [] } }
+    ensures the_inherited_label_is_passed_on { handed_on (codes "A" ∷ codes "B" ∷ []) (codes "A" ∷ codes "B" ∷ [])
+        (Some (codes "B")) ≡ Some (codes "B") }
+    ensures otherwise_the_first_of_the_table { handed_on (codes "B" ∷ codes "A" ∷ []) (codes "A" ∷ codes "B" ∷ [])
+        (Some (codes "C")) ≡ Some (codes "B") }
+    ensures an_entry_with_it { own_entry 32 (codes "B" ∷ codes "A" ∷ []) (codes "A" ∷ codes "B" ∷ []) None 1 1
+        ≡ record { start = 0x8000_0000; bits = 1; label = codes "B" } ∷ [] }
+    ensures entries_of_two_halves { entries_of 32 (codes "B" ∷ codes "A" ∷ [])
+        (InnerNode (record { cost = 1; labels = codes "A" ∷ codes "B" ∷ [] }) (LeafNode (codes "A"))
+        (LeafNode (codes "B")))
+        None 1 1
+        ≡ record { start = 0x8000_0000; bits = 1; label = codes "B" }
+        ∷ record { start = 0x8000_0000; bits = 2; label = codes "A" } ∷ [] }
+    ensures a_set_in_the_order_of_the_table { in_table_order (codes "C" ∷ codes "A" ∷ [])
+        (record { cost = 3; labels = codes "A" ∷ codes "X" ∷ codes "C" ∷ [] })
+        ≡ record { cost = 3; labels = codes "C" ∷ codes "A" ∷ codes "X" ∷ [] } }
 {}
 
 /// DEFINITIONS.md, "Minimal pairs": everything in a pair is determined by the map.
 pub fn a_pair_is_minimal_as_it_is_read()
-    ensures of_one_label { AreMinimalAsRead (map_reading (codes "")) (list_reading (codes "0.0.0.0/0 UNKNOWN\n")) (format_reading (codes "flowlabel-cert 1 ipv4 1\nUNKNOWN\nl 0\n")) }
-    ensures format_2 { AreMinimalAsRead (map_reading (codes "")) (list_reading (codes "0.0.0.0/0 UNKNOWN\n")) (format_reading (codes "flowlabel-cert 2 ipv4 1\nUNKNOWN\nl 0\n")) → ⊥ }
-    ensures another_version_of_the_certificate { AreMinimalAsRead (map_reading (codes "")) (list_reading (codes "0.0.0.0/0 UNKNOWN\n")) (format_reading (codes "flowlabel-cert 1 ipv6 1\nUNKNOWN\nl 0\n")) → ⊥ }
-    ensures another_table_of_the_certificate { AreMinimalAsRead (map_reading (codes "")) (list_reading (codes "0.0.0.0/0 UNKNOWN\n")) (format_reading (codes "flowlabel-cert 1 ipv4 2\nUNKNOWN\nA\nl 0\n")) → ⊥ }
-    ensures two_equal_leaves { AreMinimalAsRead (map_reading (codes "")) (list_reading (codes "0.0.0.0/0 UNKNOWN\n")) (format_reading (codes "flowlabel-cert 1 ipv4 1\nUNKNOWN\nn 0 0\nl 0\nl 0\n")) → ⊥ }
-    ensures another_version_of_the_list { AreMinimalAsRead (map_reading (codes "")) (list_reading (codes "mode ipv6\n::/0 UNKNOWN\n")) (format_reading (codes "flowlabel-cert 1 ipv4 1\nUNKNOWN\nl 0\n")) → ⊥ }
-    ensures another_name { AreMinimalAsRead (map_reading (codes "")) (list_reading (codes "map-name x\n0.0.0.0/0 UNKNOWN\n")) (format_reading (codes "flowlabel-cert 1 ipv4 1\nUNKNOWN\nl 0\n")) → ⊥ }
-    ensures another_table_of_the_list { AreMinimalAsRead (map_reading (codes "")) (list_reading (codes "label 5 A\n0.0.0.0/0 UNKNOWN\n")) (format_reading (codes "flowlabel-cert 1 ipv4 1\nUNKNOWN\nl 0\n")) → ⊥ }
-    ensures no_entries { AreMinimalAsRead (map_reading (codes "")) (list_reading (codes "label 5 UNKNOWN\n")) (format_reading (codes "flowlabel-cert 1 ipv4 1\nUNKNOWN\nl 0\n")) → ⊥ }
-    ensures one_leaf_for_two_labels { AreMinimalPair (map_reading (codes "0.0.0.0/1 A\n128.0.0.0/1 B\n")) (list_reading (codes "0.0.0.0/0 A\n")) (format_reading (codes "flowlabel-cert 1 ipv4 3\nA\nB\nUNKNOWN\nl 0\n")) → ⊥ }
-    ensures another_cost { AreMinimalPair (map_reading (codes "0.0.0.0/2 A\n64.0.0.0/2 B\n128.0.0.0/2 A\n192.0.0.0/2 C\n")) (list_reading (codes "0.0.0.0/0 A\n64.0.0.0/2 B\n192.0.0.0/2 C\n")) (format_reading (codes "flowlabel-cert 1 ipv4 4\nA\nB\nC\nUNKNOWN\nn 3 0\nn 1 0 1\nl 0\nl 1\nn 1 0 2\nl 0\nl 2\n")) → ⊥ }
-    ensures another_cost_of_the_lower_half { AreMinimalPair (map_reading (codes "0.0.0.0/2 A\n64.0.0.0/2 B\n128.0.0.0/2 A\n192.0.0.0/2 C\n")) (list_reading (codes "0.0.0.0/0 A\n64.0.0.0/2 B\n192.0.0.0/2 C\n")) (format_reading (codes "flowlabel-cert 1 ipv4 4\nA\nB\nC\nUNKNOWN\nn 3 0\nn 2 0 1\nl 0\nl 1\nn 1 0 2\nl 0\nl 2\n")) → ⊥ }
-    ensures another_cost_of_the_upper_half { AreMinimalPair (map_reading (codes "0.0.0.0/2 A\n64.0.0.0/2 B\n128.0.0.0/2 A\n192.0.0.0/2 C\n")) (list_reading (codes "0.0.0.0/0 A\n64.0.0.0/2 B\n192.0.0.0/2 C\n")) (format_reading (codes "flowlabel-cert 1 ipv4 4\nA\nB\nC\nUNKNOWN\nn 3 0\nn 1 0 1\nl 0\nl 1\nn 2 0 2\nl 0\nl 2\n")) → ⊥ }
-    ensures a_chain { StandsFor (record { version = V4; name = None; fallback = codes "A"; mappings = []; table = codes "A" ∷ [] }) (ChainNode (record { cost = 0; labels = [] }) (true ∷ []) (codes "A") (LeafNode (codes "A"))) 0 0 → ⊥ }
+    ensures of_one_label { AreMinimalAsRead (map_reading (codes "")) (list_reading (codes "0.0.0.0/0 UNKNOWN\n"))
+        (format_reading (codes "flowlabel-cert 1 ipv4 1\nUNKNOWN\nl 0\n")) }
+    ensures format_2 { AreMinimalAsRead (map_reading (codes "")) (list_reading (codes "0.0.0.0/0 UNKNOWN\n"))
+        (format_reading (codes "flowlabel-cert 2 ipv4 1\nUNKNOWN\nl 0\n")) → ⊥ }
+    ensures another_version_of_the_certificate { AreMinimalAsRead (map_reading (codes ""))
+        (list_reading (codes "0.0.0.0/0 UNKNOWN\n")) (format_reading (codes "flowlabel-cert 1 ipv6 1\nUNKNOWN\nl 0\n"))
+        → ⊥ }
+    ensures another_table_of_the_certificate { AreMinimalAsRead (map_reading (codes ""))
+        (list_reading (codes "0.0.0.0/0 UNKNOWN\n"))
+        (format_reading (codes "flowlabel-cert 1 ipv4 2\nUNKNOWN\nA\nl 0\n")) → ⊥ }
+    ensures two_equal_leaves { AreMinimalAsRead (map_reading (codes "")) (list_reading (codes "0.0.0.0/0 UNKNOWN\n"))
+        (format_reading (codes "flowlabel-cert 1 ipv4 1\nUNKNOWN\nn 0 0\nl 0\nl 0\n")) → ⊥ }
+    ensures another_version_of_the_list { AreMinimalAsRead (map_reading (codes ""))
+        (list_reading (codes "mode ipv6\n::/0 UNKNOWN\n"))
+        (format_reading (codes "flowlabel-cert 1 ipv4 1\nUNKNOWN\nl 0\n")) → ⊥ }
+    ensures another_name { AreMinimalAsRead (map_reading (codes ""))
+        (list_reading (codes "map-name x\n0.0.0.0/0 UNKNOWN\n"))
+        (format_reading (codes "flowlabel-cert 1 ipv4 1\nUNKNOWN\nl 0\n")) → ⊥ }
+    ensures another_table_of_the_list { AreMinimalAsRead (map_reading (codes ""))
+        (list_reading (codes "label 5 A\n0.0.0.0/0 UNKNOWN\n"))
+        (format_reading (codes "flowlabel-cert 1 ipv4 1\nUNKNOWN\nl 0\n")) → ⊥ }
+    ensures no_entries { AreMinimalAsRead (map_reading (codes "")) (list_reading (codes "label 5 UNKNOWN\n"))
+        (format_reading (codes "flowlabel-cert 1 ipv4 1\nUNKNOWN\nl 0\n")) → ⊥ }
+    ensures one_leaf_for_two_labels { AreMinimalPair (map_reading (codes "0.0.0.0/1 A\n128.0.0.0/1 B\n"))
+        (list_reading (codes "0.0.0.0/0 A\n")) (format_reading (codes "flowlabel-cert 1 ipv4 3\nA\nB\nUNKNOWN\nl 0\n"))
+        → ⊥ }
+    ensures another_cost { AreMinimalPair
+        (map_reading (codes "0.0.0.0/2 A\n64.0.0.0/2 B\n128.0.0.0/2 A\n192.0.0.0/2 C\n"))
+        (list_reading (codes "0.0.0.0/0 A\n64.0.0.0/2 B\n192.0.0.0/2 C\n"))
+        (format_reading
+        (codes "flowlabel-cert 1 ipv4 4\nA\nB\nC\nUNKNOWN\nn 3 0\nn 1 0 1\nl 0\nl 1\nn 1 0 2\nl 0\nl 2\n")) → ⊥ }
+    ensures another_cost_of_the_lower_half { AreMinimalPair
+        (map_reading (codes "0.0.0.0/2 A\n64.0.0.0/2 B\n128.0.0.0/2 A\n192.0.0.0/2 C\n"))
+        (list_reading (codes "0.0.0.0/0 A\n64.0.0.0/2 B\n192.0.0.0/2 C\n"))
+        (format_reading
+        (codes "flowlabel-cert 1 ipv4 4\nA\nB\nC\nUNKNOWN\nn 3 0\nn 2 0 1\nl 0\nl 1\nn 1 0 2\nl 0\nl 2\n")) → ⊥ }
+    ensures another_cost_of_the_upper_half { AreMinimalPair
+        (map_reading (codes "0.0.0.0/2 A\n64.0.0.0/2 B\n128.0.0.0/2 A\n192.0.0.0/2 C\n"))
+        (list_reading (codes "0.0.0.0/0 A\n64.0.0.0/2 B\n192.0.0.0/2 C\n"))
+        (format_reading
+        (codes "flowlabel-cert 1 ipv4 4\nA\nB\nC\nUNKNOWN\nn 3 0\nn 1 0 1\nl 0\nl 1\nn 2 0 2\nl 0\nl 2\n")) → ⊥ }
+    ensures a_chain { StandsFor
+        (record { version = V4; name = None; fallback = codes "A"; mappings = []; table = codes "A" ∷ [] })
+        (ChainNode (record { cost = 0; labels = [] }) (true ∷ []) (codes "A") (LeafNode (codes "A"))) 0 0 → ⊥ }
 {}
 
 /// DEFINITIONS.md, "Certificates": a mapping that covers an address of the block.

@@ -1,5 +1,5 @@
-//! Readers and writers: which bytes a writer took, how it stopped, and whether a reader has ended. The states are written
-//! down by hand.
+//! Readers and writers: which bytes a writer took, how it stopped, and whether a reader has ended. The states are
+//! written down by hand.
 
 ghost use Rattle.definition_examples.specs.Devices.{holder, reader, writer};
 ghost use Rattle.flow_io.specs.Devices.{StopsWriting, Takes, WritesWhole, has_ended};
@@ -25,35 +25,51 @@ pub fn a_writer_takes_no_other_bytes()
 /// The writer took the bytes, and was then flushed once.
 pub fn a_writer_writes_and_is_flushed()
     ensures all { WritesWhole (writer false Write (codes "a")) (writer false Flush (codes "ab")) (codes "b") }
-    ensures once_more { WritesWhole (writer false Flush (codes "a")) (record (writer false Flush (codes "ab")) { flushes = 2 }) (codes "b") }
+    ensures once_more { WritesWhole (writer false Flush (codes "a"))
+        (record (writer false Flush (codes "ab")) { flushes = 2 }) (codes "b") }
 {}
 
 /// A writer that took other bytes, wasn't flushed last, was flushed twice, or failed.
 pub fn a_writer_has_not_written()
-    ensures other_bytes { WritesWhole (writer false Write (codes "a")) (writer false Flush (codes "a")) (codes "b") → ⊥ }
-    ensures without_a_flush { WritesWhole (writer false Flush (codes "a")) (record (writer false Write (codes "ab")) { flushes = 2 }) (codes "b") → ⊥ }
-    ensures flushed_twice { WritesWhole (writer false Write (codes "a")) (record (writer false Flush (codes "ab")) { flushes = 2 }) (codes "b") → ⊥ }
-    ensures after_a_failure { WritesWhole (writer false Write (codes "a")) (writer true Flush (codes "ab")) (codes "b") → ⊥ }
+    ensures other_bytes { WritesWhole (writer false Write (codes "a")) (writer false Flush (codes "a")) (codes "b")
+        → ⊥ }
+    ensures without_a_flush { WritesWhole (writer false Flush (codes "a"))
+        (record (writer false Write (codes "ab")) { flushes = 2 }) (codes "b") → ⊥ }
+    ensures flushed_twice { WritesWhole (writer false Write (codes "a"))
+        (record (writer false Flush (codes "ab")) { flushes = 2 }) (codes "b") → ⊥ }
+    ensures after_a_failure { WritesWhole (writer false Write (codes "a")) (writer true Flush (codes "ab")) (codes "b")
+        → ⊥ }
 {}
 
 /// A writer that failed, with what it took before.
 pub fn a_writer_stops_at_a_write_or_a_flush()
-    ensures at_the_first_write { StopsWriting (writer false Nothing (codes "a")) (writer true Write (codes "a")) (codes "bc") }
-    ensures within_the_bytes { StopsWriting (writer false Flush (codes "a")) (record (writer true Write (codes "ab")) { flushes = 1 }) (codes "bc") }
-    ensures at_the_flush { StopsWriting (writer false Write (codes "a")) (writer true FailedFlush (codes "abc")) (codes "bc") }
+    ensures at_the_first_write { StopsWriting (writer false Nothing (codes "a")) (writer true Write (codes "a"))
+        (codes "bc") }
+    ensures within_the_bytes { StopsWriting (writer false Flush (codes "a"))
+        (record (writer true Write (codes "ab")) { flushes = 1 }) (codes "bc") }
+    ensures at_the_flush { StopsWriting (writer false Write (codes "a")) (writer true FailedFlush (codes "abc"))
+        (codes "bc") }
 {}
 
-/// A writer that works, that took other bytes, that failed at a flush although bytes were left, or that was flushed before.
+/// A writer that works, that took other bytes, that failed at a flush although bytes were left, or that was flushed
+/// before.
 pub fn a_writer_has_not_stopped()
     ensures it_works { StopsWriting (writer true Write (codes "a")) (writer false Write (codes "ab")) (codes "bc") → ⊥ }
-    ensures other_bytes { StopsWriting (writer false Write (codes "a")) (writer true Write (codes "ac")) (codes "b") → ⊥ }
-    ensures more_bytes { StopsWriting (writer false Write (codes "a")) (writer true Write (codes "abc")) (codes "b") → ⊥ }
-    ensures others_before { StopsWriting (writer false Write (codes "a")) (writer true Write (codes "b")) (codes "b") → ⊥ }
+    ensures other_bytes { StopsWriting (writer false Write (codes "a")) (writer true Write (codes "ac")) (codes "b")
+        → ⊥ }
+    ensures more_bytes { StopsWriting (writer false Write (codes "a")) (writer true Write (codes "abc")) (codes "b")
+        → ⊥ }
+    ensures others_before { StopsWriting (writer false Write (codes "a")) (writer true Write (codes "b")) (codes "b")
+        → ⊥ }
     ensures flushed { StopsWriting (writer false Write (codes "a")) (writer true Flush (codes "ab")) (codes "b") → ⊥ }
-    ensures flushed_uncounted { StopsWriting (writer false Write (codes "a")) (record (writer true Flush (codes "ab")) { flushes = 0 }) (codes "b") → ⊥ }
-    ensures flushed_too_early { StopsWriting (writer false Write (codes "a")) (writer true FailedFlush (codes "a")) (codes "b") → ⊥ }
-    ensures flushed_before_a_write { StopsWriting (writer false Write (codes "a")) (record (writer true Write (codes "ab")) { flushes = 1 }) (codes "bc") → ⊥ }
-    ensures flushed_twice { StopsWriting (writer false Write (codes "a")) (record (writer true FailedFlush (codes "abc")) { flushes = 2 }) (codes "bc") → ⊥ }
+    ensures flushed_uncounted { StopsWriting (writer false Write (codes "a"))
+        (record (writer true Flush (codes "ab")) { flushes = 0 }) (codes "b") → ⊥ }
+    ensures flushed_too_early { StopsWriting (writer false Write (codes "a")) (writer true FailedFlush (codes "a"))
+        (codes "b") → ⊥ }
+    ensures flushed_before_a_write { StopsWriting (writer false Write (codes "a"))
+        (record (writer true Write (codes "ab")) { flushes = 1 }) (codes "bc") → ⊥ }
+    ensures flushed_twice { StopsWriting (writer false Write (codes "a"))
+        (record (writer true FailedFlush (codes "abc")) { flushes = 2 }) (codes "bc") → ⊥ }
 {}
 
 /// A reader has ended if its last read found nothing, and nothing is left.

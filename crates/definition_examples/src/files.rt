@@ -65,11 +65,22 @@ pub fn messages_follow_one_another()
     ensures each_domain_has_its_own { counts
         (codes "000a0020 00000000 00000000 00000001 00020010 01000002 00080004 000c0004 000a001c 00000000 00000000 00000002 0002000c 01000001 00040001 000a001c 00000000 00000000 00000001 0100000c 0a000001 0a000002")
         ≡ Ok (3 ∷ 2 ∷ 0 ∷ 0 ∷ 1 ∷ 0 ∷ 1 ∷ 0 ∷ 1 ∷ []) }
-    ensures domains_differ_in_high_bits { counts (codes "000a0020 00000000 00000000 00010001 00020010 01000002 00080004 000c0004 000a001c 00000000 00000000 00000001 0100000c 0a000001 0a000002") ≡ Ok (2 ∷ 1 ∷ 0 ∷ 0 ∷ 0 ∷ 1 ∷ 0 ∷ 0 ∷ 0 ∷ []) }
-    ensures domains_differ_in_the_highest_byte { counts (codes "000a0020 00000000 00000000 01000001 00020010 01000002 00080004 000c0004 000a001c 00000000 00000000 00000001 0100000c 0a000001 0a000002") ≡ Ok (2 ∷ 1 ∷ 0 ∷ 0 ∷ 0 ∷ 1 ∷ 0 ∷ 0 ∷ 0 ∷ []) }
-    ensures a_header_has_its_numbers { file_reading (hex (codes "000a0018 01020304 05060708 090a0b0c 00010008 00000000")) ≡ Ok (record { export_time = 0x0102_0304; sequence = 0x0506_0708; domain = 0x090a_0b0c; sets = Skipped 1 ∷ [] } ∷ []) }
-    ensures the_count_goes_on { messages_from no_templates 4294967294 7 (hex (codes "000a0010 00000000 00000000 00000001 000a0010 00000000 00000000 00000001")) ≡ Err (at_offset TooManyMessages 23) }
-    ensures the_last_two_messages { is_ok (messages_from no_templates 4294967293 0 (hex (codes "000a0010 00000000 00000000 00000001 000a0010 00000000 00000000 00000001"))) ≡ true }
+    ensures domains_differ_in_high_bits { counts
+        (codes "000a0020 00000000 00000000 00010001 00020010 01000002 00080004 000c0004 000a001c 00000000 00000000 00000001 0100000c 0a000001 0a000002")
+        ≡ Ok (2 ∷ 1 ∷ 0 ∷ 0 ∷ 0 ∷ 1 ∷ 0 ∷ 0 ∷ 0 ∷ []) }
+    ensures domains_differ_in_the_highest_byte { counts
+        (codes "000a0020 00000000 00000000 01000001 00020010 01000002 00080004 000c0004 000a001c 00000000 00000000 00000001 0100000c 0a000001 0a000002")
+        ≡ Ok (2 ∷ 1 ∷ 0 ∷ 0 ∷ 0 ∷ 1 ∷ 0 ∷ 0 ∷ 0 ∷ []) }
+    ensures a_header_has_its_numbers { file_reading
+        (hex (codes "000a0018 01020304 05060708 090a0b0c 00010008 00000000"))
+        ≡ Ok (record { export_time = 0x0102_0304; sequence = 0x0506_0708; domain = 0x090a_0b0c; sets = Skipped 1 ∷ [] }
+        ∷ []) }
+    ensures the_count_goes_on { messages_from no_templates 4294967294 7
+        (hex (codes "000a0010 00000000 00000000 00000001 000a0010 00000000 00000000 00000001"))
+        ≡ Err (at_offset TooManyMessages 23) }
+    ensures the_last_two_messages { is_ok
+        (messages_from no_templates 4294967293 0
+        (hex (codes "000a0010 00000000 00000000 00000001 000a0010 00000000 00000000 00000001"))) ≡ true }
 {}
 
 /// RFC 7011, section 3.3: the set ID is 2, 3, or 256 or above.
@@ -99,11 +110,21 @@ pub fn sets_follow_one_another()
     ensures a_field_of_an_enterprise { counts
         (codes "000a0028 00000000 00000000 00000001 00020010 01000001 80080004 00007279 01000008 00000001")
         ≡ Ok (1 ∷ 1 ∷ 0 ∷ 0 ∷ 1 ∷ 0 ∷ 1 ∷ 0 ∷ 0 ∷ []) }
-    ensures the_greatest_template_id { counts (codes "000a002c 00000000 00000000 00000001 00020010 ffff0002 00080004 000c0004 ffff000c 0a000001 0a000002") ≡ Ok (1 ∷ 1 ∷ 0 ∷ 0 ∷ 1 ∷ 0 ∷ 1 ∷ 0 ∷ 1 ∷ []) }
-    ensures another_enterprise_with_the_same_low_bytes { rows (codes "000a0038 00000000 00000000 00000001 00020018 01000003 00080004 000c0004 80020004 00017279 01000010 0a000001 0a000002 00000005") ≡ Ok (record plain { src = 0x0a000001; dst = 0x0a000002 } ∷ []) }
-    ensures an_element_above_16384 { rows (codes "000a0038 00000000 00000000 00000001 00020018 01000003 00080004 000c0004 c0020004 00007279 01000010 0a000001 0a000002 00000005") ≡ Ok (record plain { src = 0x0a000001; dst = 0x0a000002 } ∷ []) }
-    ensures records_of_two_templates { counts (codes "000a002f 00000000 00000000 00000001 00020014 01000001 00040001 01010001 000b0002 01000005 06 01010006 01bb") ≡ Ok (1 ∷ 2 ∷ 0 ∷ 0 ∷ 2 ∷ 0 ∷ 2 ∷ 0 ∷ 0 ∷ []) }
-    ensures the_greater_id_first { counts (codes "000a002f 00000000 00000000 00000001 00020014 01010001 000b0002 01000001 00040001 01000005 06 01010006 01bb") ≡ Ok (1 ∷ 2 ∷ 0 ∷ 0 ∷ 2 ∷ 0 ∷ 2 ∷ 0 ∷ 0 ∷ []) }
+    ensures the_greatest_template_id { counts
+        (codes "000a002c 00000000 00000000 00000001 00020010 ffff0002 00080004 000c0004 ffff000c 0a000001 0a000002")
+        ≡ Ok (1 ∷ 1 ∷ 0 ∷ 0 ∷ 1 ∷ 0 ∷ 1 ∷ 0 ∷ 1 ∷ []) }
+    ensures another_enterprise_with_the_same_low_bytes { rows
+        (codes "000a0038 00000000 00000000 00000001 00020018 01000003 00080004 000c0004 80020004 00017279 01000010 0a000001 0a000002 00000005")
+        ≡ Ok (record plain { src = 0x0a000001; dst = 0x0a000002 } ∷ []) }
+    ensures an_element_above_16384 { rows
+        (codes "000a0038 00000000 00000000 00000001 00020018 01000003 00080004 000c0004 c0020004 00007279 01000010 0a000001 0a000002 00000005")
+        ≡ Ok (record plain { src = 0x0a000001; dst = 0x0a000002 } ∷ []) }
+    ensures records_of_two_templates { counts
+        (codes "000a002f 00000000 00000000 00000001 00020014 01000001 00040001 01010001 000b0002 01000005 06 01010006 01bb")
+        ≡ Ok (1 ∷ 2 ∷ 0 ∷ 0 ∷ 2 ∷ 0 ∷ 2 ∷ 0 ∷ 0 ∷ []) }
+    ensures the_greater_id_first { counts
+        (codes "000a002f 00000000 00000000 00000001 00020014 01010001 000b0002 01000001 00040001 01000005 06 01010006 01bb")
+        ≡ Ok (1 ∷ 2 ∷ 0 ∷ 0 ∷ 2 ∷ 0 ∷ 2 ∷ 0 ∷ 0 ∷ []) }
 {}
 
 /// RFC 7011, section 8.1, and FORMATS.md, "Template in force".
@@ -132,10 +153,18 @@ pub fn the_last_definition_is_in_force()
     ensures a_definition_after_a_withdrawal { counts
         (codes "000a0044 00000000 00000000 00000001 00020010 01000002 00080004 000c0004 00020008 01000000 00020010 01000002 00080004 000c0004 0100000c 0a000001 0a000002")
         ≡ Ok (1 ∷ 2 ∷ 0 ∷ 1 ∷ 1 ∷ 0 ∷ 1 ∷ 0 ∷ 1 ∷ []) }
-    ensures a_withdrawal_of_all_of_another_domain { counts (codes "000a0020 00000000 00000000 00000001 00020010 01000002 00080004 000c0004 000a0018 00000000 00000000 00000002 00020008 00020000 000a001c 00000000 00000000 00000001 0100000c 0a000001 0a000002") ≡ Ok (3 ∷ 1 ∷ 0 ∷ 1 ∷ 1 ∷ 0 ∷ 1 ∷ 0 ∷ 1 ∷ []) }
-    ensures a_definition_after_a_withdrawal_in_one_set { counts (codes "000a0020 00000000 00000000 00000001 00020010 01000000 01010001 00040001") ≡ Ok (1 ∷ 1 ∷ 0 ∷ 1 ∷ 0 ∷ 0 ∷ 0 ∷ 0 ∷ 0 ∷ []) }
-    ensures a_definition_after_a_withdrawal_of_all_in_one_set { counts (codes "000a0020 00000000 00000000 00000001 00020010 00020000 01010001 00040001") ≡ Ok (1 ∷ 1 ∷ 0 ∷ 1 ∷ 0 ∷ 0 ∷ 0 ∷ 0 ∷ 0 ∷ []) }
-    ensures a_withdrawal_of_all_of_a_lower_domain { counts (codes "000a0020 00000000 00000000 00000002 00020010 01000002 00080004 000c0004 000a0018 00000000 00000000 00000001 00020008 00020000 000a001c 00000000 00000000 00000002 0100000c 0a000001 0a000002") ≡ Ok (3 ∷ 1 ∷ 0 ∷ 1 ∷ 1 ∷ 0 ∷ 1 ∷ 0 ∷ 1 ∷ []) }
+    ensures a_withdrawal_of_all_of_another_domain { counts
+        (codes "000a0020 00000000 00000000 00000001 00020010 01000002 00080004 000c0004 000a0018 00000000 00000000 00000002 00020008 00020000 000a001c 00000000 00000000 00000001 0100000c 0a000001 0a000002")
+        ≡ Ok (3 ∷ 1 ∷ 0 ∷ 1 ∷ 1 ∷ 0 ∷ 1 ∷ 0 ∷ 1 ∷ []) }
+    ensures a_definition_after_a_withdrawal_in_one_set { counts
+        (codes "000a0020 00000000 00000000 00000001 00020010 01000000 01010001 00040001")
+        ≡ Ok (1 ∷ 1 ∷ 0 ∷ 1 ∷ 0 ∷ 0 ∷ 0 ∷ 0 ∷ 0 ∷ []) }
+    ensures a_definition_after_a_withdrawal_of_all_in_one_set { counts
+        (codes "000a0020 00000000 00000000 00000001 00020010 00020000 01010001 00040001")
+        ≡ Ok (1 ∷ 1 ∷ 0 ∷ 1 ∷ 0 ∷ 0 ∷ 0 ∷ 0 ∷ 0 ∷ []) }
+    ensures a_withdrawal_of_all_of_a_lower_domain { counts
+        (codes "000a0020 00000000 00000000 00000002 00020010 01000002 00080004 000c0004 000a0018 00000000 00000000 00000001 00020008 00020000 000a001c 00000000 00000000 00000002 0100000c 0a000001 0a000002")
+        ≡ Ok (3 ∷ 1 ∷ 0 ∷ 1 ∷ 1 ∷ 0 ∷ 1 ∷ 0 ∷ 1 ∷ []) }
 {}
 
 /// RFC 7011, sections 3.3.1 and 3.4.3: fewer bytes than a record has, whatever they are.
@@ -157,7 +186,9 @@ pub fn padding_is_ignored()
         ≡ Ok (1 ∷ 1 ∷ 0 ∷ 0 ∷ 1 ∷ 0 ∷ 0 ∷ 0 ∷ 0 ∷ []) }
     ensures a_length_of_254 { variable_at (254 ∷ replicate 255 7) ≡ Some (replicate 254 7, 7 ∷ []) }
     ensures a_long_form_of_256_bytes { variable_at (255 ∷ 1 ∷ 0 ∷ replicate 257 7) ≡ Some (replicate 256 7, 7 ∷ []) }
-    ensures an_empty_value_is_a_record { counts (codes "000a0021 00000000 00000000 00000001 0002000c 01000001 0052ffff 01000005 00") ≡ Ok (1 ∷ 1 ∷ 0 ∷ 0 ∷ 1 ∷ 0 ∷ 1 ∷ 0 ∷ 0 ∷ []) }
+    ensures an_empty_value_is_a_record { counts
+        (codes "000a0021 00000000 00000000 00000001 0002000c 01000001 0052ffff 01000005 00")
+        ≡ Ok (1 ∷ 1 ∷ 0 ∷ 0 ∷ 1 ∷ 0 ∷ 1 ∷ 0 ∷ 0 ∷ []) }
     ensures a_long_form_of_no_bytes { variable_at (255 ∷ 0 ∷ 0 ∷ []) ≡ Some ([], []) }
 {}
 
@@ -181,8 +212,10 @@ pub fn faults_of_messages()
     ensures the_last_message_of_a_file { own_fault 4294967294 (hex (codes "000a0010")) ≡ None }
     ensures one_message_too_many { own_fault 4294967295 (hex (codes "000a0010")) ≡ Some TooManyMessages }
     ensures a_version_of_two_bytes { own_fault 0 (hex (codes "010a0010")) ≡ Some BadVersion }
-    ensures a_length_of_40000 { header_fault 0 (hex (codes "000a9c40 00000000 00000000 00000001")) ≡ Some TruncatedMessage }
-    ensures a_version_before_a_truncated_message { header_fault 0 (hex (codes "0009ffff 00000000 00000000 00000001")) ≡ Some BadVersion }
+    ensures a_length_of_40000 { header_fault 0 (hex (codes "000a9c40 00000000 00000000 00000001"))
+        ≡ Some TruncatedMessage }
+    ensures a_version_before_a_truncated_message { header_fault 0 (hex (codes "0009ffff 00000000 00000000 00000001"))
+        ≡ Some BadVersion }
 {}
 
 /// FORMATS.md, "IPFIX Files": F5 to F7, at the offset of the set or the record.
@@ -228,14 +261,19 @@ pub fn faults_of_sets_and_records()
     ensures the_withdrawal_of_all_of_the_other_kind { counts
         (codes "000a0018 00000000 00000000 00000001 00020008 00030000")
         ≡ Err (at_offset (BadTemplate BadTemplateId) 20) }
-    ensures a_set_of_4100_bytes { set_next no_templates 1 16 (hex (codes "00041004") ++ replicate 4096 0) ≡ Ok (Skipped 4, []) }
-    ensures a_set_before_another { set_next no_templates 1 16 (hex (codes "0004000501 0005")) ≡ Ok (Skipped 4, hex (codes "0005")) }
+    ensures a_set_of_4100_bytes { set_next no_templates 1 16 (hex (codes "00041004") ++ replicate 4096 0)
+        ≡ Ok (Skipped 4, []) }
+    ensures a_set_before_another { set_next no_templates 1 16 (hex (codes "0004000501 0005"))
+        ≡ Ok (Skipped 4, hex (codes "0005")) }
 {}
 
 /// FORMATS.md, "Printed texts": `info`.
 pub fn the_counts_of_messages_add_up()
     ensures of_two_lists { sums (1 ∷ 2 ∷ []) (10 ∷ 20 ∷ []) ≡ 11 ∷ 22 ∷ [] }
-    ensures of_two_messages { of_messages summed_counts (file_reading (hex (codes "000a0014 00000000 00000000 00000001 00010004 000a0018 00000000 00000000 00000001 00040004 00050004"))) ≡ Ok (2 ∷ 0 ∷ 0 ∷ 0 ∷ 0 ∷ 3 ∷ 0 ∷ 0 ∷ 0 ∷ []) }
+    ensures of_two_messages { of_messages summed_counts
+        (file_reading (hex
+        (codes "000a0014 00000000 00000000 00000001 00010004 000a0018 00000000 00000000 00000001 00040004 00050004")))
+        ≡ Ok (2 ∷ 0 ∷ 0 ∷ 0 ∷ 0 ∷ 3 ∷ 0 ∷ 0 ∷ 0 ∷ []) }
 {}
 
 /// A reader may fail at the end of a message, or within one that isn't complete.
@@ -243,7 +281,8 @@ pub fn a_reader_may_stop_within_a_message()
     ensures after_ten_bytes { StopsReading (take 10 rfc_message) }
     ensures of_a_file_that_is_read_on { StopsFrom no_templates 4 7 [] (at_offset Unread 7) }
     ensures not_elsewhere { StopsFrom no_templates 0 0 [] (at_offset Unread 1) → ⊥ }
-    ensures not_after_the_beginning_of_a_message { StopsFrom no_templates 0 0 (take 10 rfc_message) (at_offset Unread 10) → ⊥ }
+    ensures not_after_the_beginning_of_a_message { StopsFrom no_templates 0 0 (take 10 rfc_message)
+        (at_offset Unread 10) → ⊥ }
     ensures not_after_a_fault { StopsReading (hex (codes "00090010 00000000 00000000 00000001")) → ⊥ }
     ensures not_with_another_fault { StopsFrom no_templates 0 0 [] (at_offset TruncatedHeader 0) → ⊥ }
     ensures not_after_too_many_messages { StopsFrom no_templates 4294967295 0 rfc_message (at_offset Unread 152) → ⊥ }

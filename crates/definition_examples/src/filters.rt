@@ -142,7 +142,8 @@ pub fn labels()
     ensures under_a_labelling { passing_by (codes "10.0.0.0/8 Inside\n") ((SourceLabel, codes "Inside") ∷ [])
         (tcp ∷ tcp_back ∷ []) ≡ Ok (tcp ∷ []) }
     ensures without_a_labelling { passing ((SourceLabel, codes "Inside") ∷ []) None (tcp ∷ []) ≡ [] }
-    ensures a_source_label_with_a_comma { passes_all ((SourceLabel, codes "Out, far") ∷ []) (by_map (codes "10.0.0.0/8 Inside\n198.51.100.0/24 Out, far\n")) tcp_back ≡ Ok true }
+    ensures a_source_label_with_a_comma { passes_all ((SourceLabel, codes "Out, far") ∷ [])
+        (by_map (codes "10.0.0.0/8 Inside\n198.51.100.0/24 Out, far\n")) tcp_back ≡ Ok true }
     ensures no_row_meets_a_malformed_option { passing ((Protocol, codes "x") ∷ []) None (tcp ∷ []) ≡ [] }
 {}
 
@@ -161,7 +162,8 @@ pub fn a_row_must_pass_each_option()
     ensures two_of_three { passes_all
         ((SourceLabel, codes "Inside") ∷ (Packets, codes "5-") ∷ (Bytes, codes "545") ∷ [])
         (by_map (codes "10.0.0.0/8 Inside\n198.51.100.0/24 Out, far\n")) tcp ≡ Ok false }
-    ensures one_row_of_three { passing ((Protocol, codes "6") ∷ (Packets, codes "5") ∷ []) None (tcp ∷ record tcp { protocol = 17 } ∷ tcp_back ∷ []) ≡ tcp ∷ [] }
+    ensures one_row_of_three { passing ((Protocol, codes "6") ∷ (Packets, codes "5") ∷ []) None
+        (tcp ∷ record tcp { protocol = 17 } ∷ tcp_back ∷ []) ≡ tcp ∷ [] }
 {}
 
 /// FORMATS.md, "Statuses and fault lines": L1. NUMBERS contain no blanks, and have 1 to 20 digits.
@@ -185,8 +187,10 @@ pub fn l1_bad_number_list()
     ensures a_sign { passes Protocol (codes "+6") tcp ≡ Err (of_option Protocol BadNumberList) }
     ensures a_malformed_item_after_one_that_passes { passes Protocol (codes "6,x") tcp
         ≡ Err (of_option Protocol BadNumberList) }
-    ensures an_open_range_of_source_ports { passes SourcePort (codes "5-") tcp ≡ Err (of_option SourcePort BadNumberList) }
-    ensures an_open_range_of_destination_ports { passes DestinationPort (codes "5-") tcp ≡ Err (of_option DestinationPort BadNumberList) }
+    ensures an_open_range_of_source_ports { passes SourcePort (codes "5-") tcp
+        ≡ Err (of_option SourcePort BadNumberList) }
+    ensures an_open_range_of_destination_ports { passes DestinationPort (codes "5-") tcp
+        ≡ Err (of_option DestinationPort BadNumberList) }
     ensures a_blank_between { passes Protocol (codes "6 17") tcp ≡ Err (of_option Protocol BadNumberList) }
 {}
 
@@ -202,8 +206,10 @@ pub fn l2_bad_range()
     ensures two_dashes { passes Packets (codes "5--6") tcp ≡ Err (of_option Packets BadRange) }
     ensures of_21_digits { passes Packets (codes "000000000000000000005") tcp ≡ Err (of_option Packets BadRange) }
     ensures a_list_of_bytes { passes Bytes (codes "5,6") tcp ≡ Err (of_option Bytes BadRange) }
-    ensures two_to_the_64_packets { passes Packets (codes "18446744073709551616") tcp ≡ Err (of_option Packets BadRange) }
-    ensures an_end_of_21_digits { passes Packets (codes "5-000000000000000000006") tcp ≡ Err (of_option Packets BadRange) }
+    ensures two_to_the_64_packets { passes Packets (codes "18446744073709551616") tcp
+        ≡ Err (of_option Packets BadRange) }
+    ensures an_end_of_21_digits { passes Packets (codes "5-000000000000000000006") tcp
+        ≡ Err (of_option Packets BadRange) }
 {}
 
 /// FORMATS.md, "Statuses and fault lines": L3.

@@ -53,9 +53,15 @@ pub fn rows_with_the_same_values_are_a_group()
     ensures the_same_number_in_both_versions { uniq (codes "sip") false unlabelled
         (tcp ∷ record tcp { version = V6; src = 0x0a00_0000 } ∷ [])
         ≡ Ok (codes "sip|records|packets|bytes\n10.0.0.0|1|5|546\n::a00:0|1|5|546\n") }
-    ensures by_three_fields { uniq (codes "sip,dip,proto") false unlabelled (tcp ∷ record tcp { protocol = 17 } ∷ []) ≡ Ok (codes "sip|dip|proto|records|packets|bytes\n10.0.0.0|198.51.100.228|6|1|5|546\n10.0.0.0|198.51.100.228|17|1|5|546\n") }
-    ensures by_six_fields { uniq (codes "sip,dip,sport,dport,proto,flags") true unlabelled (record tcp { flags = 274 } ∷ record tcp { flags = 18 } ∷ []) ≡ Ok (codes "sip|dip|sport|dport|proto|flags|records|packets|bytes\n10.0.0.0|198.51.100.228|1804|443|6|18|1|5|546\n10.0.0.0|198.51.100.228|1804|443|6|274|1|5|546\n") }
-    ensures two_hosts_of_one_64 { uniq (codes "sip") false unlabelled (record tcp { version = V6; src = 0x2001_0db8_0000_0000_0000_0000_0000_0001 } ∷ record tcp { version = V6; src = 0x2001_0db8_0000_0000_0000_0000_0000_0002 } ∷ []) ≡ Ok (codes "sip|records|packets|bytes\n2001:db8::1|1|5|546\n2001:db8::2|1|5|546\n") }
+    ensures by_three_fields { uniq (codes "sip,dip,proto") false unlabelled (tcp ∷ record tcp { protocol = 17 } ∷ [])
+        ≡ Ok (codes "sip|dip|proto|records|packets|bytes\n10.0.0.0|198.51.100.228|6|1|5|546\n10.0.0.0|198.51.100.228|17|1|5|546\n") }
+    ensures by_six_fields { uniq (codes "sip,dip,sport,dport,proto,flags") true unlabelled
+        (record tcp { flags = 274 } ∷ record tcp { flags = 18 } ∷ [])
+        ≡ Ok (codes "sip|dip|sport|dport|proto|flags|records|packets|bytes\n10.0.0.0|198.51.100.228|1804|443|6|18|1|5|546\n10.0.0.0|198.51.100.228|1804|443|6|274|1|5|546\n") }
+    ensures two_hosts_of_one_64 { uniq (codes "sip") false unlabelled
+        (record tcp { version = V6; src = 0x2001_0db8_0000_0000_0000_0000_0000_0001 }
+        ∷ record tcp { version = V6; src = 0x2001_0db8_0000_0000_0000_0000_0000_0002 } ∷ [])
+        ≡ Ok (codes "sip|records|packets|bytes\n2001:db8::1|1|5|546\n2001:db8::2|1|5|546\n") }
 {}
 
 /// FORMATS.md, "Groups of rows": an address without a label has the empty label.
@@ -75,7 +81,11 @@ pub fn labels_group_addresses()
         ≡ Ok (codes "src-label|records|packets|bytes\nInside|1|5|546\nUNKNOWN|1|5|546\n") }
     ensures the_empty_label { uniq (codes "src-label") false (by_map (codes "10.0.0.0/8 Inside\n198.51.100.0/24 Out\n"))
         (tcp
-        ∷ record tcp { version = V6; src = 0x2001_0db8_0000_0000_0000_0000_0000_0000; dst = 0x2001_0db8_0000_0000_0000_0000_0000_0001 }
+        ∷ record tcp {
+          version = V6;
+          src = 0x2001_0db8_0000_0000_0000_0000_0000_0000;
+          dst = 0x2001_0db8_0000_0000_0000_0000_0000_0001;
+        }
         ∷ [])
         ≡ Ok (codes "src-label|records|packets|bytes\nInside|1|5|546\n|1|5|546\n") }
     ensures two_addresses_of_one_label { uniq (codes "src-label") false
@@ -83,8 +93,13 @@ pub fn labels_group_addresses()
         ≡ Ok (codes "src-label|records|packets|bytes\nInside|2|10|1092\n") }
     ensures without_a_map { uniq (codes "src-label") false unlabelled (tcp ∷ tcp_back ∷ [])
         ≡ Ok (codes "src-label|records|packets|bytes\n|2|7|626\n") }
-    ensures long_labels_differ_at_the_end { uniq (codes "src-label") false (by_map (codes "10.0.0.0/8 a customer with a long name A\n11.0.0.0/8 a customer with a long name B\n")) (tcp ∷ record tcp { src = 0x0b00_0000 } ∷ []) ≡ Ok (codes "src-label|records|packets|bytes\na customer with a long name A|1|5|546\na customer with a long name B|1|5|546\n") }
-    ensures no_label_is_not_unknown { uniq (codes "src-label") false (by_map (codes "11.0.0.0/8 A\n")) (tcp ∷ record tcp { version = V6; src = 0x2001_0db8_0000_0000_0000_0000_0000_0001 } ∷ []) ≡ Ok (codes "src-label|records|packets|bytes\nUNKNOWN|1|5|546\n|1|5|546\n") }
+    ensures long_labels_differ_at_the_end { uniq (codes "src-label") false
+        (by_map (codes "10.0.0.0/8 a customer with a long name A\n11.0.0.0/8 a customer with a long name B\n"))
+        (tcp ∷ record tcp { src = 0x0b00_0000 } ∷ [])
+        ≡ Ok (codes "src-label|records|packets|bytes\na customer with a long name A|1|5|546\na customer with a long name B|1|5|546\n") }
+    ensures no_label_is_not_unknown { uniq (codes "src-label") false (by_map (codes "11.0.0.0/8 A\n"))
+        (tcp ∷ record tcp { version = V6; src = 0x2001_0db8_0000_0000_0000_0000_0000_0001 } ∷ [])
+        ≡ Ok (codes "src-label|records|packets|bytes\nUNKNOWN|1|5|546\n|1|5|546\n") }
 {}
 
 /// FORMATS.md, "Groups of rows": the sums are larger than 2^64 - 1.
@@ -141,7 +156,11 @@ pub fn groups_are_in_the_order_of_their_first_rows_or_sorted()
     ensures the_empty_label_first { uniq (codes "src-label") true
         (by_map (codes "10.0.0.0/8 B\n11.0.0.0/8 A\n12.0.0.0/8 a\n13.0.0.0/8 AA\n"))
         (record tcp { src = 0x0b00_0000 }
-        ∷ record tcp { version = V6; src = 0x2001_0db8_0000_0000_0000_0000_0000_0000; dst = 0x2001_0db8_0000_0000_0000_0000_0000_0001 }
+        ∷ record tcp {
+          version = V6;
+          src = 0x2001_0db8_0000_0000_0000_0000_0000_0000;
+          dst = 0x2001_0db8_0000_0000_0000_0000_0000_0001;
+        }
         ∷ [])
         ≡ Ok (codes "src-label|records|packets|bytes\n|1|5|546\nA|1|5|546\n") }
     ensures labels_by_first_rows { uniq (codes "src-label") false
@@ -156,7 +175,9 @@ pub fn groups_are_in_the_order_of_their_first_rows_or_sorted()
         ≡ Ok (codes "flags|records|packets|bytes\n2|1|5|546\n27|1|5|546\n") }
     ensures no_rows { uniq (codes "sport") true unlabelled ([])
         ≡ Ok (codes "sport|records|packets|bytes\n") }
-    ensures by_the_third_field { uniq (codes "proto,dport,sport") true unlabelled (record tcp { sport = 2 } ∷ record tcp { sport = 1 } ∷ []) ≡ Ok (codes "proto|dport|sport|records|packets|bytes\n6|443|1|1|5|546\n6|443|2|1|5|546\n") }
+    ensures by_the_third_field { uniq (codes "proto,dport,sport") true unlabelled
+        (record tcp { sport = 2 } ∷ record tcp { sport = 1 } ∷ [])
+        ≡ Ok (codes "proto|dport|sport|records|packets|bytes\n6|443|1|1|5|546\n6|443|2|1|5|546\n") }
 {}
 
 /// FORMATS.md, "Statuses and fault lines": an unknown name (U1) comes before a repeated one (U2).
@@ -187,11 +208,15 @@ pub fn items_that_are_the_same_are_a_group()
 /// Rows compare by the first field that differs.
 pub fn rows_compare_by_their_fields()
     ensures same { compare_by (label_where unlabelled) (Protocol ∷ []) tcp tcp_back ≡ Equal }
-    ensures by_the_second_field { compare_by (label_where unlabelled) (Protocol ∷ SourcePort ∷ []) tcp tcp_back ≡ Greater }
-    ensures by_the_first_field { compare_by (label_where unlabelled) (SourceAddress ∷ SourcePort ∷ []) tcp tcp_back ≡ Less }
+    ensures by_the_second_field { compare_by (label_where unlabelled) (Protocol ∷ SourcePort ∷ []) tcp tcp_back
+        ≡ Greater }
+    ensures by_the_first_field { compare_by (label_where unlabelled) (SourceAddress ∷ SourcePort ∷ []) tcp tcp_back
+        ≡ Less }
     ensures by_nothing { compare_by (label_where unlabelled) [] tcp tcp_back ≡ Equal }
-    ensures ipv4_first { compare_by (label_where unlabelled) (SourceAddress ∷ []) tcp (record tcp { version = V6; src = 1 }) ≡ Less }
-    ensures no_label_first { compare_by (label_where (by_map (codes "11.0.0.0/8 A\n"))) (SourceLabel ∷ []) tcp (record tcp { version = V6; src = 1 }) ≡ Greater }
+    ensures ipv4_first { compare_by (label_where unlabelled) (SourceAddress ∷ []) tcp
+        (record tcp { version = V6; src = 1 }) ≡ Less }
+    ensures no_label_first { compare_by (label_where (by_map (codes "11.0.0.0/8 A\n"))) (SourceLabel ∷ []) tcp
+        (record tcp { version = V6; src = 1 }) ≡ Greater }
 {}
 
 /// The groups of parts of the rows, merged by key: their records, packets and bytes are added.

@@ -42,7 +42,8 @@ pub fn the_longest_block_counts()
         ≡ Ok (Some (codes "A")) }
     ensures one_ipv6_address { under_list (codes "2001:db8::1 D\n2001:db8::/32 A\n") (codes "2001:db8::1")
         ≡ Ok (Some (codes "D")) }
-    ensures among_addresses_of_four_bits { label_below 4 (record { start = 2; bits = 3; label = codes "A" } ∷ []) 5 3 ≡ Some (codes "A") }
+    ensures among_addresses_of_four_bits { label_below 4 (record { start = 2; bits = 3; label = codes "A" } ∷ []) 5 3
+        ≡ Some (codes "A") }
 {}
 
 /// Host bits are cleared. A single address is a block of length 32 or 128.
@@ -98,17 +99,39 @@ pub fn an_address_is_looked_up_in_the_version_of_the_list()
 /// No text has equal blocks (fault M14), but a list of a Rust program may: DEFINITIONS.md, "Labels of addresses".
 pub fn of_equal_blocks_the_first_counts()
     ensures the_same_start { list_label
-        (record { version = V4; name = None; prefixes = (record { start = 0x0a00_0000; bits = 8; label = codes "A" } ∷ record { start = 0x0a00_0000; bits = 8; label = codes "B" } ∷ []); table = [] }) 0x0a00_0001
-        ≡ Some (codes "A") }
+        (record {
+          version = V4;
+          name = None;
+          prefixes = (record { start = 0x0a00_0000; bits = 8; label = codes "A" }
+              ∷ record { start = 0x0a00_0000; bits = 8; label = codes "B" } ∷ []);
+          table = [];
+        })
+        0x0a00_0001 ≡ Some (codes "A") }
     ensures another_start { list_label
-        (record { version = V4; name = None; prefixes = (record { start = 0x0a07_0000; bits = 8; label = codes "A" } ∷ record { start = 0x0a00_0000; bits = 8; label = codes "B" } ∷ []); table = [] }) 0x0a00_0001
-        ≡ Some (codes "A") }
+        (record {
+          version = V4;
+          name = None;
+          prefixes = (record { start = 0x0a07_0000; bits = 8; label = codes "A" }
+              ∷ record { start = 0x0a00_0000; bits = 8; label = codes "B" } ∷ []);
+          table = [];
+        })
+        0x0a00_0001 ≡ Some (codes "A") }
     ensures a_longer_one_later { list_label
-        (record { version = V4; name = None; prefixes = (record { start = 0x0a00_0000; bits = 8; label = codes "A" } ∷ record { start = 0x0a00_0000; bits = 8; label = codes "B" } ∷ record { start = 0x0a00_0000; bits = 9; label = codes "C" } ∷ []); table = [] }) 0x0a00_0001
-        ≡ Some (codes "C") }
+        (record {
+          version = V4;
+          name = None;
+          prefixes = (record { start = 0x0a00_0000; bits = 8; label = codes "A" }
+              ∷ record { start = 0x0a00_0000; bits = 8; label = codes "B" }
+              ∷ record { start = 0x0a00_0000; bits = 9; label = codes "C" } ∷ []);
+          table = [];
+        })
+        0x0a00_0001 ≡ Some (codes "C") }
 {}
 
 /// FORMATS.md, "Limits": a text may have this many different labels.
 pub fn a_list_has_each_label_once()
-    ensures of_three_entries { labels_of (record { start = 0; bits = 1; label = codes "B" } ∷ record { start = 1; bits = 2; label = codes "A" } ∷ record { start = 2; bits = 2; label = codes "B" } ∷ []) ≡ codes "B" ∷ codes "A" ∷ [] }
+    ensures of_three_entries { labels_of
+        (record { start = 0; bits = 1; label = codes "B" } ∷ record { start = 1; bits = 2; label = codes "A" }
+        ∷ record { start = 2; bits = 2; label = codes "B" } ∷ [])
+        ≡ codes "B" ∷ codes "A" ∷ [] }
 {}

@@ -74,8 +74,11 @@ pub fn each_statement_has_its_meaning()
     ensures all_ipv6_addresses { of_map (λ m. m.mappings) (codes "::/0 A\n")
         ≡ Ok (record { low = 0x0000; high = 0xffff_ffff_ffff_ffff_ffff_ffff_ffff_ffff; label = codes "A" } ∷ []) }
     ensures a_block_of_one_address { of_map (λ m. m.mappings) (codes "2001:db8::1/128 A\n")
-        ≡ Ok
-        (record { low = 0x2001_0db8_0000_0000_0000_0000_0000_0001; high = 0x2001_0db8_0000_0000_0000_0000_0000_0001; label = codes "A" }
+        ≡ Ok (record {
+          low = 0x2001_0db8_0000_0000_0000_0000_0000_0001;
+          high = 0x2001_0db8_0000_0000_0000_0000_0000_0001;
+          label = codes "A";
+        }
         ∷ []) }
     ensures in_the_order_of_lines { of_map (λ m. m.mappings) (codes "10.0.0.1 A\n10.0.0.0 B\n")
         ≡ Ok
@@ -215,8 +218,10 @@ pub fn a_label_is_the_rest_of_its_line()
     ensures bytes_above_127 { of_map (λ m. m.fallback) (codes "default " ++ 195 ∷ 169 ∷ []) ≡ Ok (195 ∷ 169 ∷ []) }
     ensures any_byte_above_127 { of_map (λ m. m.fallback) (codes "default " ++ 128 ∷ 255 ∷ []) ≡ Ok (128 ∷ 255 ∷ []) }
     ensures of_255_bytes { of_map (λ m. m.fallback) (codes "default " ++ replicate 255 120) ≡ Ok (replicate 255 120) }
-    ensures a_declared_label_with_a_digit { under_map (codes "label 5 AS5\n10.0.0.0/8 5\n") (codes "10.0.0.0") ≡ Ok (Some (codes "AS5")) }
-    ensures no_break_space_is_no_blank { under_map (codes "10.0.0.0/8 A" ++ 194 ∷ 160 ∷ codes "\n") (codes "10.0.0.0") ≡ Ok (Some (codes "A" ++ 194 ∷ 160 ∷ [])) }
+    ensures a_declared_label_with_a_digit { under_map (codes "label 5 AS5\n10.0.0.0/8 5\n") (codes "10.0.0.0")
+        ≡ Ok (Some (codes "AS5")) }
+    ensures no_break_space_is_no_blank { under_map (codes "10.0.0.0/8 A" ++ 194 ∷ 160 ∷ codes "\n") (codes "10.0.0.0")
+        ≡ Ok (Some (codes "A" ++ 194 ∷ 160 ∷ [])) }
 {}
 
 /// FORMATS.md, "Limits" and "Certificates": in the order of first occurrence, with `UNKNOWN` last if there is no
@@ -240,7 +245,8 @@ pub fn the_label_table_has_each_label_once()
 
 /// FORMATS.md, "Statements": `label NUMBER TEXT`.
 pub fn a_text_declares_labels_by_numbers()
-    ensures in_order { with_declared ((5, codes "red") ∷ []) (6, codes "blue") ≡ (5, codes "red") ∷ (6, codes "blue") ∷ [] }
+    ensures in_order { with_declared ((5, codes "red") ∷ []) (6, codes "blue")
+        ≡ (5, codes "red") ∷ (6, codes "blue") ∷ [] }
     ensures once { with_declared ((5, codes "red") ∷ []) (5, codes "red") ≡ (5, codes "red") ∷ [] }
 {}
 

@@ -49,7 +49,8 @@ pub fn a_number_may_be_sent_in_fewer_bytes()
         ≡ record plain { octets = 281474976710656 } ∷ [] }
     ensures total_packets_in_six_bytes { rows_with (value 86 (codes "010203040506") ∷ [])
         ≡ record plain { packets = 1108152157446 } ∷ [] }
-    ensures three_bytes_have_no_sign { rows_with (value 2 (codes "ff0000") ∷ []) ≡ record plain { packets = 16711680 } ∷ [] }
+    ensures three_bytes_have_no_sign { rows_with (value 2 (codes "ff0000") ∷ [])
+        ≡ record plain { packets = 16711680 } ∷ [] }
 {}
 
 /// FORMATS.md, "Rows of a File": the column of lengths.

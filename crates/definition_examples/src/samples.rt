@@ -14,8 +14,32 @@ ghost use Rattle.std.specs.Prelude.{◌≡◌, ◌∷◌, [], Ok};
 pub fn a_file_of_softflowd()
     ensures { of_messages summary (file_reading softflowd) ≡ Ok (
       9 ∷ 4 ∷ 1 ∷ 0 ∷ 59 ∷ 0 ∷ 210 ∷ 1 ∷ 210 ∷ [],
-      record { version = V4; src = 0x0a00_d9b6; dst = 0x3e7a_3fe6; sport = 19014; dport = 443; protocol = 6; flags = 2; packets = 1; octets = 40; start_ms = 0; end_ms = 0 }
-          ∷ record { version = V4; src = 0x0a02_dc2a; dst = 0xd428_2ce4; sport = 55755; dport = 443; protocol = 6; flags = 2; packets = 1; octets = 40; start_ms = 0; end_ms = 0 }
+      record {
+        version = V4;
+        src = 0x0a00_d9b6;
+        dst = 0x3e7a_3fe6;
+        sport = 19014;
+        dport = 443;
+        protocol = 6;
+        flags = 2;
+        packets = 1;
+        octets = 40;
+        start_ms = 0;
+        end_ms = 0;
+      }
+          ∷ record {
+            version = V4;
+            src = 0x0a02_dc2a;
+            dst = 0xd428_2ce4;
+            sport = 55755;
+            dport = 443;
+            protocol = 6;
+            flags = 2;
+            packets = 1;
+            octets = 40;
+            start_ms = 0;
+            end_ms = 0;
+          }
           ∷ [],
       942,
     ) }
@@ -25,8 +49,32 @@ pub fn a_file_of_softflowd()
 pub fn a_file_with_times()
     ensures { of_messages summary (file_reading softflowd_milli) ≡ Ok (
       10 ∷ 4 ∷ 1 ∷ 0 ∷ 61 ∷ 0 ∷ 210 ∷ 1 ∷ 210 ∷ [],
-      record { version = V4; src = 0x0a00_d9b6; dst = 0x3e7a_3fe6; sport = 19014; dport = 443; protocol = 6; flags = 2; packets = 1; octets = 40; start_ms = 1700000148638; end_ms = 1700000148665 }
-          ∷ record { version = V4; src = 0x0a02_dc2a; dst = 0xd428_2ce4; sport = 55755; dport = 443; protocol = 6; flags = 2; packets = 1; octets = 40; start_ms = 1700000279549; end_ms = 1700000279549 }
+      record {
+        version = V4;
+        src = 0x0a00_d9b6;
+        dst = 0x3e7a_3fe6;
+        sport = 19014;
+        dport = 443;
+        protocol = 6;
+        flags = 2;
+        packets = 1;
+        octets = 40;
+        start_ms = 1700000148638;
+        end_ms = 1700000148665;
+      }
+          ∷ record {
+            version = V4;
+            src = 0x0a02_dc2a;
+            dst = 0xd428_2ce4;
+            sport = 55755;
+            dport = 443;
+            protocol = 6;
+            flags = 2;
+            packets = 1;
+            octets = 40;
+            start_ms = 1700000279549;
+            end_ms = 1700000279549;
+          }
           ∷ [],
       942,
     ) }
@@ -36,8 +84,32 @@ pub fn a_file_with_times()
 pub fn a_file_with_both_directions()
     ensures { of_messages summary (file_reading softflowd_biflow) ≡ Ok (
       2 ∷ 4 ∷ 1 ∷ 0 ∷ 12 ∷ 0 ∷ 21 ∷ 1 ∷ 41 ∷ [],
-      record { version = V6; src = 0x2001_0db8_0000_0000_0000_0000_0000_0000; dst = 0x2001_0db8_ffff_0000_0000_0000_0000_00a9; sport = 1924; dport = 443; protocol = 17; flags = 0; packets = 1; octets = 135; start_ms = 1700000019980; end_ms = 1700000019999 }
-          ∷ record { version = V4; src = 0xc633_6438; dst = 0x0a00_0000; sport = 80; dport = 1984; protocol = 6; flags = 27; packets = 4; octets = 872; start_ms = 1700000594059; end_ms = 1700000594547 }
+      record {
+        version = V6;
+        src = 0x2001_0db8_0000_0000_0000_0000_0000_0000;
+        dst = 0x2001_0db8_ffff_0000_0000_0000_0000_00a9;
+        sport = 1924;
+        dport = 443;
+        protocol = 17;
+        flags = 0;
+        packets = 1;
+        octets = 135;
+        start_ms = 1700000019980;
+        end_ms = 1700000019999;
+      }
+          ∷ record {
+            version = V4;
+            src = 0xc633_6438;
+            dst = 0x0a00_0000;
+            sport = 80;
+            dport = 1984;
+            protocol = 6;
+            flags = 27;
+            packets = 4;
+            octets = 872;
+            start_ms = 1700000594059;
+            end_ms = 1700000594547;
+          }
           ∷ [],
       88,
     ) }
@@ -51,8 +123,32 @@ pub fn a_file_of_pmacctd()
 /// The rows of pmacctd.ipfix.
 pub fn rows_of_pmacctd()
     ensures { of_messages (λ messages. ends_of (rows_of_messages messages)) (file_reading pmacctd) ≡ Ok (
-      record { version = V4; src = 0x971c_00dd; dst = 0x0a02_ea14; sport = 49505; dport = 80; protocol = 6; flags = 2; packets = 2; octets = 80; start_ms = 1700000038271; end_ms = 1700000038271 }
-          ∷ record { version = V4; src = 0x3412_9271; dst = 0x0a03_8964; sport = 0; dport = 0; protocol = 50; flags = 0; packets = 2; octets = 120; start_ms = 1700000249914; end_ms = 1700000249914 }
+      record {
+        version = V4;
+        src = 0x971c_00dd;
+        dst = 0x0a02_ea14;
+        sport = 49505;
+        dport = 80;
+        protocol = 6;
+        flags = 2;
+        packets = 2;
+        octets = 80;
+        start_ms = 1700000038271;
+        end_ms = 1700000038271;
+      }
+          ∷ record {
+            version = V4;
+            src = 0x3412_9271;
+            dst = 0x0a03_8964;
+            sport = 0;
+            dport = 0;
+            protocol = 50;
+            flags = 0;
+            packets = 2;
+            octets = 120;
+            start_ms = 1700000249914;
+            end_ms = 1700000249914;
+          }
           ∷ [],
       1884,
     ) }

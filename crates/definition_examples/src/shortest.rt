@@ -1,5 +1,5 @@
-//! Lists that are no shortest list of a map: a shorter one labels every address as the map does, or the list itself labels
-//! an address otherwise.
+//! Lists that are no shortest list of a map: a shorter one labels every address as the map does, or the list itself
+//! labels an address otherwise.
 
 ghost use Rattle.definition_examples.specs.Shortest.{IsNotEquivalent, IsNotLeast, IsEquivalentRead};
 ghost use Rattle.std.specs.Prelude.{codes};

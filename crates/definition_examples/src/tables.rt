@@ -23,7 +23,14 @@ pub fn rows_are_a_table()
     ensures in_order { rows false (plain ∷ tcp ∷ plain ∷ [])
         ≡ codes "sip|dip|sport|dport|proto|flags|packets|bytes|stime|etime\n10.0.0.1|10.0.0.2|0|0|0|0|0|0|0|0\n10.0.0.0|198.51.100.228|1804|443|6|27|5|546|1700000067030|1700000067362\n10.0.0.1|10.0.0.2|0|0|0|0|0|0|0|0\n" }
     ensures the_greatest_numbers { rows false
-        (record plain { packets = 18446744073709551615; octets = 18446744073709551615; sport = 65535; dport = 65535; protocol = 255; flags = 65535 }
+        (record plain {
+          packets = 18446744073709551615;
+          octets = 18446744073709551615;
+          sport = 65535;
+          dport = 65535;
+          protocol = 255;
+          flags = 65535;
+        }
         ∷ [])
         ≡ codes "sip|dip|sport|dport|proto|flags|packets|bytes|stime|etime\n10.0.0.1|10.0.0.2|65535|65535|255|65535|18446744073709551615|18446744073709551615|0|0\n" }
     ensures ipv6 { rows false
@@ -57,7 +64,10 @@ pub fn columns_are_padded_on_the_left()
         (tcp ∷ record tcp { protocol = 17; octets = 123456789 } ∷ [])
         ≡ Ok
         (codes "proto|records|packets|    bytes\n    6|      1|      5|      546\n   17|      1|      5|123456789\n") }
-    ensures a_column_of_17_bytes { groups_in true (codes "sip") false unlabelled (record tcp { version = V6; src = 0x2001_0db8_0000_0000_0000_0000_1234_5678 } ∷ record tcp { version = V6; src = 1 } ∷ []) ≡ Ok (codes "                sip|records|packets|bytes\n2001:db8::1234:5678|      1|      5|  546\n                ::1|      1|      5|  546\n") }
+    ensures a_column_of_17_bytes { groups_in true (codes "sip") false unlabelled
+        (record tcp { version = V6; src = 0x2001_0db8_0000_0000_0000_0000_1234_5678 }
+        ∷ record tcp { version = V6; src = 1 } ∷ [])
+        ≡ Ok (codes "                sip|records|packets|bytes\n2001:db8::1234:5678|      1|      5|  546\n                ::1|      1|      5|  546\n") }
 {}
 
 /// FORMATS.md, "Printed texts", `shrink`: entries are sorted by first address and then by length.
@@ -141,5 +151,6 @@ pub fn info_counts_records_and_rows()
 /// FORMATS.md, "Printed texts": `--columns`.
 pub fn a_column_is_as_wide_as_its_longest_field()
     ensures of_empty_fields { column_width (([] ∷ []) ∷ ([] ∷ []) ∷ []) 0 ≡ 0 }
-    ensures of_the_second_column { column_width ((codes "abc" ∷ codes "de" ∷ []) ∷ (codes "a" ∷ codes "defg" ∷ []) ∷ []) 1 ≡ 4 }
+    ensures of_the_second_column { column_width ((codes "abc" ∷ codes "de" ∷ []) ∷ (codes "a" ∷ codes "defg" ∷ []) ∷ [])
+        1 ≡ 4 }
 {}

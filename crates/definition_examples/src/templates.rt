@@ -19,8 +19,10 @@ pub fn a_withdrawal_of_all_has_the_id_of_its_set()
 /// RFC 7011, section 3.2: an enterprise number follows if the first bit is 1.
 pub fn a_field_specifier_has_4_or_8_bytes()
     ensures the_greatest_element { field_at (hex (codes "7fff0004 06")) ≡ Some (field 32767 4, hex (codes "06")) }
-    ensures element_0_of_an_enterprise { field_at (hex (codes "80000004 00000001 06")) ≡ Some (record { enterprise = Some 1; number = 0; length = 4 }, hex (codes "06")) }
-    ensures a_great_enterprise_number { field_at (hex (codes "80080004 00017279")) ≡ Some (record { enterprise = Some 94841; number = 8; length = 4 }, []) }
+    ensures element_0_of_an_enterprise { field_at (hex (codes "80000004 00000001 06"))
+        ≡ Some (record { enterprise = Some 1; number = 0; length = 4 }, hex (codes "06")) }
+    ensures a_great_enterprise_number { field_at (hex (codes "80080004 00017279"))
+        ≡ Some (record { enterprise = Some 94841; number = 8; length = 4 }, []) }
     ensures three_bytes { field_at (hex (codes "000800")) ≡ None }
     ensures seven_bytes { field_at (hex (codes "80080004 000072")) ≡ None }
 {}
@@ -31,6 +33,8 @@ pub fn a_template_record_has_its_fields()
     ensures no_scope_count { template_record_at Options (hex (codes "01010001")) ≡ Err Truncated }
     ensures half_a_scope_count { template_record_at Options (hex (codes "01010001 00")) ≡ Err Truncated }
     ensures a_scope_count_of_0 { template_record_at Options (hex (codes "01010001 0000")) ≡ Err BadScope }
-    ensures a_withdrawal_and_more { template_record_at Flow (hex (codes "01000000 0101")) ≡ Ok (Withdraw 256, hex (codes "0101")) }
-    ensures a_withdrawal_of_all_and_more { template_record_at Flow (hex (codes "00020000 0101")) ≡ Ok (WithdrawAll Flow, hex (codes "0101")) }
+    ensures a_withdrawal_and_more { template_record_at Flow (hex (codes "01000000 0101"))
+        ≡ Ok (Withdraw 256, hex (codes "0101")) }
+    ensures a_withdrawal_of_all_and_more { template_record_at Flow (hex (codes "00020000 0101"))
+        ≡ Ok (WithdrawAll Flow, hex (codes "0101")) }
 {}
