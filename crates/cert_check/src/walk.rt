@@ -127,12 +127,9 @@ pub fn check_node(
     let deepest = walk.nodes.fault(CertFaultKind::TooDeep);
     let number = walk.number;
     walk.number = next_number(number);
-    let node = match walk.nodes.next_node(&mut walk.buffer, &sources.limits) {
-        Ok(node) => node,
-        Err(fault) => return walk.stop(fault),
-    };
-    match node {
-        Node::Leaf(id) => {
+    match walk.nodes.next_node(&mut walk.buffer, &sources.limits) {
+        Err(fault) => walk.stop(fault),
+        Ok(Node::Leaf(id)) => {
             let Ok(()) = hold_leaf(&mut walk.sets, id) else {
                 return walk.stop(CertFault::from(AllocError));
             };
@@ -140,7 +137,7 @@ pub fn check_node(
             walk.note(fault, number);
             Some(0)
         }
-        Node::Inner(claim) => {
+        Ok(Node::Inner(claim)) => {
             if len == sources.limits.width {
                 return walk.stop(deepest);
             }
@@ -149,7 +146,7 @@ pub fn check_node(
             };
             check_inner(sources, walk, first, last, len, number, held)
         }
-        Node::Chain { claim, path, side } => {
+        Ok(Node::Chain { claim, path, side }) => {
             if path.len() > sources.limits.width - len {
                 return walk.stop(deepest);
             }

@@ -44,8 +44,8 @@ check_node-returns-then-len-sources t c =
       refl,
       rw c.fault-deepest.ensures (
         λ _. ap (λ (n : ℕ). nodes_at (due_in limits.format limits.width limits.labels.now) limits.labels.now n 0 c.args.walk.now.nodes) room
-            ∙ node-deep (due_in limits.format limits.width limits.labels.now) limits.labels.now c.args.walk.now.nodes c.next_node.new.self c.in-Inner.claim.cost (numbers c.in-Inner.claim.set.now)
-            (rw c.in-Inner.is at c.in-Ok.ensures.ok),
+            ∙ node-deep (due_in limits.format limits.width limits.labels.now) limits.labels.now c.args.walk.now.nodes c.next_node.new.self c.in-Ok-Inner.claim.cost (numbers c.in-Ok-Inner.claim.set.now)
+            (rw c.in-Ok-Inner.field-0-is at c.in-Ok-Inner.ensures.ok),
         λ e. cc,
       ),
     )
@@ -54,8 +54,8 @@ pub check_node-check_inner-requires : goal.check_node-check_inner-requires
 check_node-check_inner-requires t c =
     let limits = c.args.sources.now.limits in
     let said = line_due-found (format_number limits.format) limits.width (length limits.labels.now) c.args.walk.now.nodes
-    (InnerLine c.in-Inner.claim.cost (numbers c.in-Inner.claim.set.now), c.next_node.new.self) (rw c.in-Inner.is at c.in-Ok.ensures.ok) in
-    let at = held-at c.args.walk.now.sets.items c.in-Inner.claim.set.now c.hold.new.sets.items c.in-Ok-hold.held.from c.in-Ok-hold.ensures.sets c.in-Ok-hold.ensures.from in
+    (InnerLine c.in-Ok-Inner.claim.cost (numbers c.in-Ok-Inner.claim.set.now), c.next_node.new.self) (rw c.in-Ok-Inner.field-0-is at c.in-Ok-Inner.ensures.ok) in
+    let at = held-at c.args.walk.now.sets.items c.in-Ok-Inner.claim.set.now c.hold.new.sets.items c.in-Ok-hold.held.from c.in-Ok-hold.ensures.sets c.in-Ok-hold.ensures.from in
     let held : IsHeld c.args.sources.now c.in-Ok-hold.held c.hold.new.sets.items =
     record { within = at.2; ascending = subst (λ (ids : List LabelId). IsAscending (length limits.labels.now) 0 (numbers ids)) (sym at.1) said.1.1 } in
     let room : c.args.len < limits.width = omega (arith, c.requires.sources.width, c.requires.range.short, c.if-len-sources.false) in
@@ -69,13 +69,13 @@ check_node-returns-in-Ok-hold t c =
     let n = c.args.len in
     let walk = c.args.walk.now in
     let due = due_in limits.format limits.width table in
-    let numbers' = numbers c.in-Inner.claim.set.now in
-    let claim = claim_with table c.in-Inner.claim.cost numbers' in
+    let numbers' = numbers c.in-Ok-Inner.claim.set.now in
+    let claim = claim_with table c.in-Ok-Inner.claim.cost numbers' in
     let some : n < limits.width = omega (arith, c.requires.sources.width, c.requires.range.short, c.if-len-sources.false) in
     let less : limits.width - n - 1 ≡ limits.width - (n + 1) = omega arith in
-    let held = held-at walk.sets.items c.in-Inner.claim.set.now c.hold.new.sets.items c.in-Ok-hold.held.from c.in-Ok-hold.ensures.sets c.in-Ok-hold.ensures.from in
+    let held = held-at walk.sets.items c.in-Ok-Inner.claim.set.now c.hold.new.sets.items c.in-Ok-hold.held.from c.in-Ok-hold.ensures.sets c.in-Ok-hold.ensures.from in
     let is : reading_at s n walk.nodes ≡ halves_reading s n claim c.next_node.new.self =
-    deeper due table walk.nodes c.next_node.new.self c.in-Inner.claim.cost numbers' (rw c.in-Inner.is at c.in-Ok.ensures.ok) (limits.width - n) (omega (arith, some))
+    deeper due table walk.nodes c.next_node.new.self c.in-Ok-Inner.claim.cost numbers' (rw c.in-Ok-Inner.field-0-is at c.in-Ok-Inner.ensures.ok) (limits.width - n) (omega (arith, some))
     ∙ ap (λ (m : ℕ). nodes_at due table m 0 c.next_node.new.self >>= (λ lower. nodes_at due table m 0 lower.1 >>= (λ upper.
     Ok (InnerNode claim lower.0 upper.0, upper.1)))) less in
     let q = number_at s n c.args.first in
@@ -89,7 +89,7 @@ check_node-returns-then-len-sources-2 t c =
       c.fault-deepest.result,
       refl,
       rw c.fault-deepest.ensures (
-        λ _. chain-over _ _ _ _ _ _ _ _ _ (rw c.in-Chain.is at c.in-Ok.ensures.ok) _ c.len.result c.len.ensures (omega (arith, c.if-len-sources-2.true)),
+        λ _. chain-over _ _ _ _ _ _ _ _ _ (rw c.in-Ok-Chain.field-0-is at c.in-Ok-Chain.ensures.ok) _ c.len.result c.len.ensures (omega (arith, c.if-len-sources-2.true)),
         λ e. cc,
       ),
     )
@@ -97,11 +97,11 @@ check_node-returns-then-len-sources-2 t c =
 pub check_node-check_chain-requires : goal.check_node-check_chain-requires
 check_node-check_chain-requires t c =
     let limits = c.args.sources.now.limits in
-    let bits : List Bool = bits_in c.in-Chain.path.now in
+    let bits : List Bool = bits_in c.in-Ok-Chain.path.now in
     let said = line_due-found (format_number limits.format) limits.width (length limits.labels.now) c.args.walk.now.nodes
-    (ChainLine c.in-Chain.claim.cost bits c.in-Chain.side.0 (numbers c.in-Chain.claim.set.now), c.next_node.new.self) (rw c.in-Chain.is at c.in-Ok.ensures.ok) in
-    let at = held-at c.args.walk.now.sets.items c.in-Chain.claim.set.now c.hold-in-Chain.new.sets.items c.in-Ok-hold-2.held.from c.in-Ok-hold-2.ensures.sets c.in-Ok-hold-2.ensures.from in
-    let held : IsHeld c.args.sources.now c.in-Ok-hold-2.held c.hold-in-Chain.new.sets.items =
+    (ChainLine c.in-Ok-Chain.claim.cost bits c.in-Ok-Chain.side.0 (numbers c.in-Ok-Chain.claim.set.now), c.next_node.new.self) (rw c.in-Ok-Chain.field-0-is at c.in-Ok-Chain.ensures.ok) in
+    let at = held-at c.args.walk.now.sets.items c.in-Ok-Chain.claim.set.now c.hold-in-Ok-Chain.new.sets.items c.in-Ok-hold-2.held.from c.in-Ok-hold-2.ensures.sets c.in-Ok-hold-2.ensures.from in
+    let held : IsHeld c.args.sources.now c.in-Ok-hold-2.held c.hold-in-Ok-Chain.new.sets.items =
     record { within = at.2; ascending = subst (λ (ids : List LabelId). IsAscending (length limits.labels.now) 0 (numbers ids)) (sym at.1) said.1.5 } in
     let room : c.args.len + length bits ≤ limits.width = omega (arith, c.len.ensures, c.if-len-sources-2.false, said.1.2) in
     let known = said.1.4 in
@@ -115,14 +115,14 @@ check_node-returns-in-Ok-hold-2 t c =
     let table = limits.labels.now in
     let n = c.args.len in
     let walk = c.args.walk.now in
-    let bits : List Bool = bits_in c.in-Chain.path.now in
-    let side = c.in-Chain.side.0 in
-    let numbers' = numbers c.in-Chain.claim.set.now in
-    let claim = claim_with table c.in-Chain.claim.cost numbers' in
+    let bits : List Bool = bits_in c.in-Ok-Chain.path.now in
+    let side = c.in-Ok-Chain.side.0 in
+    let numbers' = numbers c.in-Ok-Chain.claim.set.now in
+    let claim = claim_with table c.in-Ok-Chain.claim.cost numbers' in
     let less : limits.width - n - c.len.result ≡ limits.width - (n + length bits) = omega (arith, c.len.ensures) in
-    let held = held-at walk.sets.items c.in-Chain.claim.set.now c.hold-in-Chain.new.sets.items c.in-Ok-hold-2.held.from c.in-Ok-hold-2.ensures.sets c.in-Ok-hold-2.ensures.from in
+    let held = held-at walk.sets.items c.in-Ok-Chain.claim.set.now c.hold-in-Ok-Chain.new.sets.items c.in-Ok-hold-2.held.from c.in-Ok-hold-2.ensures.sets c.in-Ok-hold-2.ensures.from in
     let is : reading_at s n walk.nodes ≡ chain_reading s n claim bits side c.next_node.new.self =
-    chain-below limits.format limits.width table walk.nodes c.next_node.new.self c.in-Chain.claim.cost bits side numbers' (rw c.in-Chain.is at c.in-Ok.ensures.ok)
+    chain-below limits.format limits.width table walk.nodes c.next_node.new.self c.in-Ok-Chain.claim.cost bits side numbers' (rw c.in-Ok-Chain.field-0-is at c.in-Ok-Chain.ensures.ok)
     (limits.width - n) c.len.result c.len.ensures (omega (arith, c.if-len-sources-2.false)) (reading_at s (n + length bits) c.next_node.new.self)
     (ap (λ (m : ℕ). nodes_at (due_in limits.format limits.width table) table m 0 c.next_node.new.self) less) in
     let q = number_at s n c.args.first in
@@ -130,13 +130,13 @@ check_node-returns-in-Ok-hold-2 t c =
     (subst (λ (x : Claim × List LabelId). IsWalkResult s (chain_reading s n x.0 bits side c.next_node.new.self) (fault_of_node n q) walk.number x.1 walk.fault c.check_chain.new.walk c.check_chain.result)
     (λ i. (claim_with table (c.in-Ok-hold-2.ensures.cost i) (numbers (held.1 i)), held.0 i)) c.check_chain.ensures)
 
-pub check_node-returns-in-Ok-hold_leaf : goal.check_node-returns-in-Ok-hold_leaf
-check_node-returns-in-Ok-hold_leaf t c =
+pub check_node-returns-in-Ok : goal.check_node-returns-in-Ok
+check_node-returns-in-Ok t c =
     let s = c.args.sources.now in
     let limits = s.limits in
-    let id = c.in-Leaf.id in
+    let id = c.in-Ok-Leaf.id in
     let walk = c.args.walk.now in
-    let due = rw c.in-Leaf.is at c.in-Ok.ensures.ok in
+    let due = rw c.in-Ok-Leaf.field-0-is at c.in-Ok-Leaf.ensures.ok in
     let said = line_due-found (format_number limits.format) limits.width (length limits.labels.now) walk.nodes (LeafLine id.0, c.next_node.new.self) due in
     rw c.note.ensures
     (record {
@@ -145,7 +145,7 @@ check_node-returns-in-Ok-hold_leaf t c =
       read = node-leaf (due_in limits.format limits.width limits.labels.now) limits.labels.now walk.nodes c.next_node.new.self (limits.width - c.args.len) id.0 due;
       claim = refl;
       ascending = (omega arith, said.1, tt);
-      sets = c.in-Ok-hold_leaf.ensures;
+      sets = c.in-Ok.ensures;
       fault = λ k told_is. (
         λ o of i. option_or walk.fault (fault_with (sym told_is i) (c.leaf_fault-fault.ensures o of c.args.len (number_at s c.args.len c.args.first) c.requires.range i)),
         sym (c.next_number-walk.ensures k told_is),
@@ -155,8 +155,8 @@ check_node-returns-in-Ok-hold_leaf t c =
 pub check_node-leaf_fault-fault-requires-clause-known : goal.check_node-leaf_fault-fault-requires-clause-known
 check_node-leaf_fault-fault-requires-clause-known t c =
     let limits = c.args.sources.now.limits in
-    let due = rw c.in-Leaf.is at c.in-Ok.ensures.ok in
-    (line_due-found (format_number limits.format) limits.width (length limits.labels.now) c.args.walk.now.nodes (LeafLine c.in-Leaf.id.0, c.next_node.new.self) due).1
+    let due = rw c.in-Ok-Leaf.field-0-is at c.in-Ok-Leaf.ensures.ok in
+    (line_due-found (format_number limits.format) limits.width (length limits.labels.now) c.args.walk.now.nodes (LeafLine c.in-Ok-Leaf.id.0, c.next_node.new.self) due).1
 
 pub check_node-invariant_of-block : goal.check_node-invariant_of-block
 check_node-invariant_of-block t c =
