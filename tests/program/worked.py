@@ -214,14 +214,14 @@ COMPACTED = (
     # .. and a chain ends if neither half is a leaf with its label. The next chain begins there.
     ("flowlabel-cert 1 ipv4 3;A;B;C;n 2 0;l 0;n 2 0;n 2 1;n 1 1;l 2;l 1;l 1;l 0;",
      "flowlabel-cert 2 ipv4 3;A;B;C;c 2 10 0 0;c 2 00 1 1;l 2;"),
-    # A run of one bit is unchanged, and so are both halves of a node without leaves.
+    # A spine of one bit is unchanged, and so are both halves of a node without leaves.
     ("flowlabel-cert 1 ipv4 3;A;B;C;n 3 0;n 2 0 1;l 0;n 1 1 2;l 1;l 2;n 0 0;l 0;l 0;",
      "flowlabel-cert 2 ipv4 3;A;B;C;n 3 0;n 2 0 1;l 0;n 1 1 2;l 1;l 2;n 0 0;l 0;l 0;"),
-    # A certificate of format 2 is unchanged, also with a chain of one bit and with a run outside a chain.
+    # A certificate of format 2 is unchanged, also with a chain of one bit and with a spine outside a chain.
     ("flowlabel-cert 2 ipv4 2;A;B;c 1 1 0 0 1;n 0 1;l 1;n 0 1;l 1;l 1;",
      "flowlabel-cert 2 ipv4 2;A;B;c 1 1 0 0 1;n 0 1;l 1;n 0 1;l 1;l 1;"),
     (SHORT_CHAINS, SHORT_CHAINS),
-    # Runs in both halves of a node that has no leaf.
+    # Spines in both halves of a node that has no leaf.
     ("flowlabel-cert 1 ipv4 2;A;B;n 2 0;n 1 0;l 0;n 1 0 1;l 0;l 1;n 1 0;n 1 0 1;l 1;l 0;l 0;",
      "flowlabel-cert 2 ipv4 2;A;B;n 2 0;c 1 11 0 0;l 1;c 1 00 0 0;l 1;"),
     ("", "C1 BadHeader at 1"),

@@ -5,11 +5,11 @@ use Rattle.prefix_keys.specs.Block.{width_of}
 use Rattle.pmap_cert.specs.CertificateText.{HasChainForm, HasFormatText, HasRoomBelow, place_of}
 use Rattle.pmap_cert.specs.Node.{Node}
 use Rattle.pmap_cert.specs.CertificateModel.{CertificateModel, ChainNode, ClaimOf, InnerNode, LeafNode, IsPlain, map_tree}
-use Rattle.pmap_cert.specs.Compacting.{compact, compacted, compacted_in, line_count, run_bits, run_end, side_of}
+use Rattle.pmap_cert.specs.Compacting.{compact, compacted, compacted_in, line_count, side_of, spine_bits, spine_end}
 use Rattle.pmap_cert.proofs.ChainWords.{other-room}
 use Rattle.pmap_cert.proofs.Compacts.{by_format}
 use Rattle.pmap_cert.proofs.Relabelled.{compacted-places, form-labels, plain-map, side-known}
-use Rattle.pmap_cert.proofs.Runs.{by_run, by_steps, plain-run}
+use Rattle.pmap_cert.proofs.Spines.{by_spine, by_steps, plain-spine}
 
 module _ (count : ℕ) where
   halves-form : (claim : ClaimOf ℕ) (lower upper : Node) (room : ℕ) → HasChainForm count (InnerNode claim lower upper) room →
@@ -17,10 +17,10 @@ module _ (count : ℕ) where
   halves-form claim lower upper zero h = absurd h
   halves-form claim lower upper (suc room) h = (room, refl, h.2, h.3)
 
-  -- the end of a run is well formed in the room that the run's bits leave
-  pub form-run : (side : ℕ) (t : Node) (room : ℕ) → HasChainForm count t room →
-      HasRoomBelow (HasChainForm count (run_end nat_eq side t)) (run_bits nat_eq side t) room
-  form-run side t =
+  -- the end of a spine is well formed in the room that the spine's bits leave
+  pub form-spine : (side : ℕ) (t : Node) (room : ℕ) → HasChainForm count t room →
+      HasRoomBelow (HasChainForm count (spine_end nat_eq side t)) (spine_bits nat_eq side t) room
+  form-spine side t =
       by_steps nat_eq side (λ t bits end. (room : ℕ) → HasChainForm count t room → HasRoomBelow (HasChainForm count end) bits room) (λ t room h. h)
       (λ claim lower upper bits end e below room h. let half = halves-form claim lower upper room h in rw half.1 (below half.0 half.3))
       (λ claim lower upper bits end e below room h. let half = halves-form claim lower upper room h in rw half.1 (below half.0 half.2)) t
@@ -33,16 +33,16 @@ module _ (count : ℕ) where
   form-in (suc steps) (InnerNode claim lower upper) zero plain h = absurd h
   form-in (suc steps) (InnerNode claim lower upper) (suc room) plain h =
       let node : Node = InnerNode claim lower upper in
-      by_run nat_eq (compacted_in nat_eq steps) claim lower upper (λ c. HasChainForm count c (suc room)) (side_of lower upper)
+      by_spine nat_eq (compacted_in nat_eq steps) claim lower upper (λ c. HasChainForm count c (suc room)) (side_of lower upper)
       (λ side e long.
-      let end : Node = run_end nat_eq side node in (
+      let end : Node = spine_end nat_eq side node in (
         h.0,
         h.1,
         side-known (λ (n : ℕ). n < count) lower upper side (form-labels count lower room h.2) (form-labels count upper room h.3) e,
-        omega (arith, leb-true 2 (length (run_bits nat_eq side node)) long),
+        omega (arith, leb-true 2 (length (spine_bits nat_eq side node)) long),
         other-room (HasChainForm count end) (HasChainForm count (compacted_in nat_eq steps end))
-            (λ left fits. form-in steps end left (plain-run nat_eq side node plain) fits)
-            (run_bits nat_eq side node) (suc room) (form-run side node (suc room) h),
+            (λ left fits. form-in steps end left (plain-spine nat_eq side node plain) fits)
+            (spine_bits nat_eq side node) (suc room) (form-spine side node (suc room) h),
       ))
       (λ short. (h.0, h.1, form-in steps lower room plain.0 h.2, form-in steps upper room plain.1 h.3))
 

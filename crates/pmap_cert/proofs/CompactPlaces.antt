@@ -4,11 +4,11 @@ use Rattle.std.proofs.lemmas.Option.{none-some}
 use Rattle.std.proofs.lemmas.List.Elements.{All-append, All-cons, All-head, All-nil, All-tail}
 use Rattle.pmap_cert.specs.FormatReading.{ChainLine, DueLine, InnerLine, LeafLine}
 use Rattle.pmap_cert.specs.CertificateModel.{ChainNode, ClaimOf, InnerNode, IsPlain, LeafNode}
-use Rattle.pmap_cert.specs.Compacting.{leaf_label, run_bits, run_end}
+use Rattle.pmap_cert.specs.Compacting.{leaf_label, spine_bits, spine_end}
 use Rattle.pmap_cert.specs.Node.{AreWhole, HasChainForm, Node, claiming, first_line, first_node, from_next_line, joined, node_lines, nodes_of, node_of}
 use Rattle.pmap_cert.specs.Inner.{AreEndsFrom, ArePlain, EndsAt, HasHalves, HasPlace, IsShallow, node_from}
 use Rattle.pmap_cert.proofs.ChainWords.{left-room}
-use Rattle.pmap_cert.proofs.CompactForms.{form-run}
+use Rattle.pmap_cert.proofs.CompactForms.{form-spine}
 use Rattle.pmap_cert.proofs.NodeWalk.{line-here, nodes-next, root-of, tree-whole, whole-next, within}
 
 -- the line isn't that of a chain
@@ -148,11 +148,11 @@ shallow-from lines zero whole all = all
 shallow-from lines (suc k) whole all =
     subst (All IsShallow) (sym (nodes-next lines k (whole-drop lines k whole))) (below-shallow (nodes_of (drop k lines)) (shallow-from lines k whole all))
 
-first-short : (side : ℕ) (nodes : List Node) → All IsShallow nodes → length (run_bits nat_eq side (first_node nodes)) ≤ 128
+first-short : (side : ℕ) (nodes : List Node) → All IsShallow nodes → length (spine_bits nat_eq side (first_node nodes)) ≤ 128
 first-short side [] all = omega arith
 first-short side (node ∷ nodes) all =
     let shallow = All-head IsShallow node nodes all in
-    let last = left-room (HasChainForm shallow.0 (run_end nat_eq side node)) (run_bits nat_eq side node) shallow.1 (form-run shallow.0 side node shallow.1 shallow.3) in
+    let last = left-room (HasChainForm shallow.0 (spine_end nat_eq side node)) (spine_bits nat_eq side node) shallow.1 (form-spine shallow.0 side node shallow.1 shallow.3) in
     omega (arith, shallow.2, last.1)
 
 -- the lines of a shallow node without chains are plain

@@ -5,9 +5,9 @@ use Rattle.pmap_model.specs.ListModel.{ListModel}
 use Rattle.pmap_model.specs.MapModel.{MapModel}
 use Rattle.pmap_cert.specs.Acceptance.{IsAccepted}
 use Rattle.pmap_cert.specs.CertificateModel.{CertificateModel, Claim, IsOfFormat, IsPlain, opened_tree}
-use Rattle.pmap_cert.specs.Compacting.{HasNoRun, IsSameShape, OpensTo, compact, compacted, line_count}
+use Rattle.pmap_cert.specs.Compacting.{HasNoSpine, IsSameShape, OpensTo, compact, compacted, line_count}
 use Rattle.pmap_cert.proofs.Opening.{claim-opening, lines-opening, opening-accepted}
-use Rattle.pmap_cert.proofs.Runs.{compacted_in-no_run, compacted_in-opens, shape-opens}
+use Rattle.pmap_cert.proofs.Spines.{compacted_in-no_spine, compacted_in-opens, shape-opens}
 
 -- the compacted certificate of a certificate of format 1
 abbrev chained : CertificateModel → CertificateModel
@@ -65,7 +65,7 @@ compact-claims c first plain = subst (λ (k : CertificateModel). OpensTo k.root 
 pub compact-shape : (c : CertificateModel) → c.format ≡ 1 → IsPlain c.root → IsSameShape (opened_tree (compact c).root) c.root
 compact-shape c first plain = shape-opens (compact c).root c.root (compact-claims c first plain)
 
-pub compact-runs : (c : CertificateModel) → c.format ≡ 1 → IsPlain c.root → HasNoRun (compact c).root
-compact-runs c first plain =
-    subst (λ (k : CertificateModel). HasNoRun k.root) (sym (compact-first c first))
-    (compacted_in-no_run (line_count c.root) c.root plain (omega arith))
+pub compact-spines : (c : CertificateModel) → c.format ≡ 1 → IsPlain c.root → HasNoSpine (compact c).root
+compact-spines c first plain =
+    subst (λ (k : CertificateModel). HasNoSpine k.root) (sym (compact-first c first))
+    (compacted_in-no_spine (line_count c.root) c.root plain (omega arith))

@@ -28,7 +28,7 @@ pub mod InTableOrder
 pub mod InOrder
 pub mod Chains
 pub mod Opening
-pub mod Runs
+pub mod Spines
 pub mod Plain
 pub mod Compacts
 pub mod ChainWords

@@ -14,7 +14,7 @@ use Rattle.pmap_cert.specs.Node.{Node, claiming, first_line, first_node, from_ne
 use Rattle.pmap_cert.specs.Paths.{digit, path_to}
 use Rattle.pmap_cert.specs.Opened.{Opens, claim_above, cost_above, node_over, node_text, numbers_of, path_node, set_above, text_down, text_up, with_number}
 
--- the claim of the node of a run with `bits` bits below it
+-- the claim of the node of a spine with `bits` bits below it
 module _ (side : ℕ) (end : Node) where
   abbrev pub claim_over : ℕ → ClaimOf ℕ
   claim_over zero = claim_of end
@@ -52,8 +52,8 @@ leaf-text n = append-nil (ended (node_line_text (LeafLine n)))
 inner-text : (claim : ClaimOf ℕ) (lower upper : Node) → node_text (InnerNode claim lower upper) ≡ ended (node_line_text (InnerLine claim.cost claim.labels)) ++ (node_text lower ++ node_text upper)
 inner-text claim lower upper = ap (λ (t : List ℕ). ended (node_line_text (InnerLine claim.cost claim.labels)) ++ t) (lines-text (node_lines lower) (node_lines upper))
 
--- The lines of a run's node, `D` of the nodes below it down to the end, those of the end, `E`, and `U` of the side blocks
--- after it are the node's text if the last three are that of the half that the run chooses. `F` is the side block's line.
+-- The lines of a spine's node, `D` of the nodes below it down to the end, those of the end, `E`, and `U` of the side blocks
+-- after it are the node's text if the last three are that of the half that the spine chooses. `F` is the side block's line.
 lower-first : (L D E U F : List ℕ) → (((L ++ []) ++ D) ++ E) ++ (U ++ F) ≡ L ++ (((D ++ E) ++ U) ++ F)
 lower-first L D E U F = simp (append_assoc, append-nil)
 
@@ -71,7 +71,7 @@ over (suc zero) side claim path D E U small below =
     upper-first line D E U (ended (node_line_text (LeafLine side))) ∙ (λ i. line ++ (sym (leaf-text side) i ++ below i)) ∙ sym (inner-text claim (LeafNode side) path)
 over (suc (suc d)) side claim path D E U small below = absurd (omega arith)
 
--- the lines of a chain's nodes down to its end, of the end, and of the side blocks after it are the text of the run
+-- the lines of a chain's nodes down to its end, of the end, and of the side blocks after it are the text of the spine
 module _ (cost side : ℕ) (set : List ℕ) (value : ℕ) (end : Node) (set_is : set ≡ (claim_of end).labels) (cost_is : cost ≡ cost_above side (claim_of end)) where
   pub down-text : (bits : ℕ) → (text_down cost side set value bits ++ node_text end) ++ text_up side value bits ≡ node_text (path_node side value bits end)
   down-text zero = append-nil (node_text end)

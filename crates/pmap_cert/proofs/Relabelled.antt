@@ -8,9 +8,9 @@ use Rattle.pmap_model.specs.MapText.{text_at}
 use Rattle.pmap_cert.specs.CertificateText.{HasChainForm, HasNodeForm, place_of}
 use Rattle.pmap_cert.specs.Node.{Node}
 use Rattle.pmap_cert.specs.CertificateModel.{ChainNode, ClaimOf, InnerNode, IsPlain, LeafNode, Tree, TreeOf, map_claim, map_tree}
-use Rattle.pmap_cert.specs.Compacting.{compacted, compacted_in, is_side, leaf_label, line_count, run_bits, run_compacted, run_end, side_of}
+use Rattle.pmap_cert.specs.Compacting.{compacted, compacted_in, is_side, leaf_label, line_count, side_of, spine_bits, spine_compacted, spine_end}
 use Rattle.pmap_cert.proofs.ChainWords.{left-room}
-use Rattle.pmap_cert.proofs.Runs.{by_steps, either-some}
+use Rattle.pmap_cert.proofs.Spines.{by_steps, either-some}
 use Rattle.pmap_cert.proofs.Tables.{label-same, text_at-place_of}
 
 -- each label of a leaf and each side label is known
@@ -24,7 +24,7 @@ plain-map f (LeafNode x) plain = tt
 plain-map f (InnerNode claim lower upper) plain = (plain-map f lower plain.0, plain-map f upper plain.1)
 plain-map f (ChainNode claim bits side end) plain = absurd plain
 
--- the side label of a run is known, as it is that of a leaf
+-- the side label of a spine is known, as it is that of a leaf
 pub leaf-known : {L : Type 0} (Known : L → Type 0) (t : TreeOf L) (x : L) → HasLabels Known t → leaf_label t ≡ Some x → Known x
 leaf-known Known (LeafNode y) x h e = subst Known (same_Some y x e) h
 leaf-known Known (InnerNode claim lower upper) x h e = absurd (none-some x e)
@@ -48,21 +48,21 @@ module _ {L M : Type 0} (same : L → L → Bool) (same' : M → M → Bool) (f 
   side-map side (InnerNode claim lower upper) known h = refl
   side-map side (ChainNode claim bits s end) known h = refl
 
-  bits-map : (side : L) (t : TreeOf L) → Known side → HasLabels Known t → run_bits same' (f side) (g t) ≡ run_bits same side t
+  bits-map : (side : L) (t : TreeOf L) → Known side → HasLabels Known t → spine_bits same' (f side) (g t) ≡ spine_bits same side t
   bits-map side (LeafNode x) known h = refl
   bits-map side (InnerNode claim lower upper) known h =
       rw (side-map side lower known h.0, side-map side upper known h.1, bits-map side lower known h.0, bits-map side upper known h.1) refl
   bits-map side (ChainNode claim bits s end) known h = refl
 
-  end-map : (side : L) (t : TreeOf L) → Known side → HasLabels Known t → run_end same' (f side) (g t) ≡ g (run_end same side t)
+  end-map : (side : L) (t : TreeOf L) → Known side → HasLabels Known t → spine_end same' (f side) (g t) ≡ g (spine_end same side t)
   end-map side (LeafNode x) known h = refl
   end-map side (InnerNode claim lower upper) known h =
       rw (side-map side lower known h.0, side-map side upper known h.1, end-map side lower known h.0, end-map side upper known h.1)
-      (sym (pick-map g (is_side same side lower) (run_end same side upper) (cond (is_side same side upper) (run_end same side lower) (InnerNode claim lower upper))
-      ∙ ap (cond (is_side same side lower) (g (run_end same side upper))) (pick-map g (is_side same side upper) (run_end same side lower) (InnerNode claim lower upper))))
+      (sym (pick-map g (is_side same side lower) (spine_end same side upper) (cond (is_side same side upper) (spine_end same side lower) (InnerNode claim lower upper))
+      ∙ ap (cond (is_side same side lower) (g (spine_end same side upper))) (pick-map g (is_side same side upper) (spine_end same side lower) (InnerNode claim lower upper))))
   end-map side (ChainNode claim bits s end) known h = refl
 
-  labels-end : (side : L) (t : TreeOf L) → HasLabels Known t → HasLabels Known (run_end same side t)
+  labels-end : (side : L) (t : TreeOf L) → HasLabels Known t → HasLabels Known (spine_end same side t)
   labels-end side =
       by_steps same side (λ t bits end. HasLabels Known t → HasLabels Known end) (λ t h. h)
       (λ claim lower upper bits end e below h. below h.1) (λ claim lower upper bits end e below h. below h.0)
@@ -81,15 +81,15 @@ module _ {L M : Type 0} (same : L → L → Bool) (same' : M → M → Bool) (f 
   either-map None p = refl
   either-map (Some x) p = refl
 
-  run-map : (inside : TreeOf L → TreeOf L) (inside' : TreeOf M → TreeOf M) → ((t : TreeOf L) → HasLabels Known t → inside' (g t) ≡ g (inside t))
+  spine-map : (inside : TreeOf L → TreeOf L) (inside' : TreeOf M → TreeOf M) → ((t : TreeOf L) → HasLabels Known t → inside' (g t) ≡ g (inside t))
       → (claim : ClaimOf L) (lower upper : TreeOf L) → HasLabels Known lower → HasLabels Known upper → (o : Option L) → ((x : L) → o ≡ Some x → Known x)
-      → run_compacted same' inside' (map_claim f claim) (g lower) (g upper) (option_map f o) ≡ g (run_compacted same inside claim lower upper o)
-  run-map inside inside' step claim lower upper low up None known = rw (step lower low, step upper up) refl
-  run-map inside inside' step claim lower upper low up (Some side) known =
+      → spine_compacted same' inside' (map_claim f claim) (g lower) (g upper) (option_map f o) ≡ g (spine_compacted same inside claim lower upper o)
+  spine-map inside inside' step claim lower upper low up None known = rw (step lower low, step upper up) refl
+  spine-map inside inside' step claim lower upper low up (Some side) known =
       let node : TreeOf L = InnerNode claim lower upper in
       let bits = bits-map side node (known side refl) (low, up) in
-      let end = ap inside' (end-map side node (known side refl) (low, up)) ∙ step (run_end same side node) (labels-end side node (low, up)) in
-      rw (bits, end, step lower low, step upper up) (sym (pick-map g (nat_le 2 (length (run_bits same side node))) _ _))
+      let end = ap inside' (end-map side node (known side refl) (low, up)) ∙ step (spine_end same side node) (labels-end side node (low, up)) in
+      rw (bits, end, step lower low, step upper up) (sym (pick-map g (nat_le 2 (length (spine_bits same side node))) _ _))
 
   in-map : (steps : ℕ) (t : TreeOf L) → HasLabels Known t → compacted_in same' steps (g t) ≡ g (compacted_in same steps t)
   unfolding compacted_in
@@ -97,7 +97,7 @@ module _ {L M : Type 0} (same : L → L → Bool) (same' : M → M → Bool) (f 
   in-map (suc steps) (LeafNode x) h = refl
   in-map (suc steps) (InnerNode claim lower upper) h =
       rw (label-map lower, label-map upper, either-map (leaf_label lower) (leaf_label upper))
-      (run-map (compacted_in same steps) (compacted_in same' steps) (in-map steps) claim lower upper h.0 h.1 (side_of lower upper) (λ x e. side-known Known lower upper x h.0 h.1 e))
+      (spine-map (compacted_in same steps) (compacted_in same' steps) (in-map steps) claim lower upper h.0 h.1 (side_of lower upper) (λ x e. side-known Known lower upper x h.0 h.1 e))
   in-map (suc steps) (ChainNode claim bits side end) h = ap (ChainNode (map_claim f claim) bits (f side)) (in-map steps end h.1)
 
   pub compacted-map : (t : TreeOf L) → HasLabels Known t → compacted same' (g t) ≡ g (compacted same t)

@@ -6,7 +6,8 @@ use Rattle.pmap_model.specs.MapModel.{Label}
 use Rattle.pmap_cert.specs.CertificateModel.{CertificateModel, ChainNode, InnerNode}
 use Rattle.pmap_cert.specs.CertificateModel.{LeafNode, ClaimOf, Tree, TreeOf, claim_of}
 
--- Compacting: a chain replaces each run of inner nodes that each have a leaf of the same label in one half.
+-- Compacting: a chain replaces each spine of two inner nodes or more. A spine is a path down the tree whose inner nodes
+-- each have a leaf in the half beside the path. These leaves have the same label, the side label.
 
 -- the number of lines of a node and the nodes below it
 abbrev pub line_count : {L : Type 0} → TreeOf L → ℕ
@@ -19,7 +20,7 @@ abbrev pub leaf_label : {L : Type 0} → TreeOf L → Option L
 leaf_label (LeafNode x) = Some x
 leaf_label _ = None
 
--- the side label of an inner node's run, by its halves: that of the lower one if it is a leaf, otherwise of the upper
+-- the side label of an inner node's spine, by its halves: that of the lower one if it is a leaf, otherwise of the upper
 -- one
 abbrev pub side_of : {L : Type 0} → TreeOf L → TreeOf L → Option L
 side_of lower upper = option_or (leaf_label lower) (leaf_label upper)
@@ -31,30 +32,31 @@ abbrev pub is_side : {L : Type 0} → (L → L → Bool) → L → TreeOf L → 
 is_side same side (LeafNode x) = same x side
 is_side same side _ = false
 
--- the bits of the longest run of a side label from a node down: a half is chosen as long as the other half is a leaf
+-- the bits of the longest spine of a side label from a node down: a half is chosen as long as the other half is a leaf
 -- with the side label; if both are, the upper one is chosen
-abbrev pub run_bits : {L : Type 0} → (L → L → Bool) → L → TreeOf L → List Bool
-run_bits same side (InnerNode claim lower upper) =
-    if is_side same side lower then true ∷ run_bits same side upper
-    else (if is_side same side upper then false ∷ run_bits same side lower else [])
-run_bits same side _ = []
+abbrev pub spine_bits : {L : Type 0} → (L → L → Bool) → L → TreeOf L → List Bool
+spine_bits same side (InnerNode claim lower upper) =
+    if is_side same side lower then true ∷ spine_bits same side upper
+    else (if is_side same side upper then false ∷ spine_bits same side lower else [])
+spine_bits same side _ = []
 
--- the node at the end of the longest run of a side label from a node down
-abbrev pub run_end : {L : Type 0} → (L → L → Bool) → L → TreeOf L → TreeOf L
-run_end same side (InnerNode claim lower upper) =
-    if is_side same side lower then run_end same side upper
-    else (if is_side same side upper then run_end same side lower else InnerNode claim lower upper)
-run_end same side node = node
+-- the node at the end of the longest spine of a side label from a node down
+abbrev pub spine_end : {L : Type 0} → (L → L → Bool) → L → TreeOf L → TreeOf L
+spine_end same side (InnerNode claim lower upper) =
+    if is_side same side lower then spine_end same side upper
+    else (if is_side same side upper then spine_end same side lower
+    else InnerNode claim lower upper)
+spine_end same side node = node
 
--- An inner node compacted, with `inside` for the nodes below it. If its run has two bits or more, it turns into a chain
--- with its claim, those bits and the compacted end of the run; otherwise its halves are compacted.
-abbrev pub run_compacted : {L : Type 0} → (L → L → Bool) → (TreeOf L → TreeOf L) → ClaimOf L
+-- An inner node compacted, with `inside` for the nodes below it. If its spine has two bits or more, it turns into a
+-- chain with its claim, those bits and the compacted end of the spine; otherwise its halves are compacted.
+abbrev pub spine_compacted : {L : Type 0} → (L → L → Bool) → (TreeOf L → TreeOf L) → ClaimOf L
     → TreeOf L → TreeOf L → Option L → TreeOf L
-run_compacted same inside claim lower upper None = InnerNode claim (inside lower) (inside upper)
-run_compacted same inside claim lower upper (Some side) =
-    if nat_le 2 (length (run_bits same side (InnerNode claim lower upper)))
-    then ChainNode claim (run_bits same side (InnerNode claim lower upper)) side
-    (inside (run_end same side (InnerNode claim lower upper)))
+spine_compacted same inside claim lower upper None = InnerNode claim (inside lower) (inside upper)
+spine_compacted same inside claim lower upper (Some side) =
+    if nat_le 2 (length (spine_bits same side (InnerNode claim lower upper)))
+    then ChainNode claim (spine_bits same side (InnerNode claim lower upper)) side
+    (inside (spine_end same side (InnerNode claim lower upper)))
     else InnerNode claim (inside lower) (inside upper)
 
 -- a node compacted down to this many steps below it
@@ -62,7 +64,7 @@ unfoldable pub compacted_in : {L : Type 0} → (L → L → Bool) → ℕ → Tr
 compacted_in same zero node = node
 compacted_in same (suc steps) (LeafNode x) = LeafNode x
 compacted_in same (suc steps) (InnerNode claim lower upper) =
-    run_compacted same (compacted_in same steps) claim lower upper (side_of lower upper)
+    spine_compacted same (compacted_in same steps) claim lower upper (side_of lower upper)
 compacted_in same (suc steps) (ChainNode claim bits side end) =
     ChainNode claim bits side (compacted_in same steps end)
 
@@ -108,11 +110,12 @@ abbrev pub has_side : Label → Tree → Bool
 has_side side (InnerNode claim lower upper) = is_side bytes_eq side lower || is_side bytes_eq side upper
 has_side side _ = false
 
--- No run is left in the tree: no inner node has a leaf in one half and, in the other, an inner node that has a leaf of
--- the same label.
-abbrev pub HasNoRun : Tree → Type 0
-HasNoRun (LeafNode x) = Unit {0}
-HasNoRun (InnerNode claim lower upper) =
+-- No spine of two inner nodes is left in the tree: no inner node has a leaf in one half and, in the other, an inner
+-- node that has a leaf of the same label.
+abbrev pub HasNoSpine : Tree → Type 0
+HasNoSpine (LeafNode x) = Unit {0}
+HasNoSpine (InnerNode claim lower upper) =
     ((x : Label) → IsTrue (is_side bytes_eq x lower) → ¬ IsTrue (has_side x upper))
-    × ((x : Label) → IsTrue (is_side bytes_eq x upper) → ¬ IsTrue (has_side x lower)) × HasNoRun lower × HasNoRun upper
-HasNoRun (ChainNode claim bits side end) = HasNoRun end
+    × ((x : Label) → IsTrue (is_side bytes_eq x upper) → ¬ IsTrue (has_side x lower))
+    × HasNoSpine lower × HasNoSpine upper
+HasNoSpine (ChainNode claim bits side end) = HasNoSpine end

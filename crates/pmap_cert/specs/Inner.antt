@@ -16,7 +16,7 @@ use Rattle.pmap_cert.specs.Node.{HasChainForm, Node, node_code, node_lines}
 use Rattle.pmap_cert.specs.Node.{tree_of, AreWhole, first_node, node_of, nodes_of}
 use Rattle.pmap_cert.specs.CertificateModel.{CertificateModel, ClaimOf, InnerNode, IsPlain, Tree}
 use Rattle.pmap_cert.specs.CertificateText.{IsAscending, bit_digits, format_header, format_word, version_word}
-use Rattle.pmap_cert.specs.Compacting.{run_bits, run_end, side_of}
+use Rattle.pmap_cert.specs.Compacting.{side_of, spine_bits, spine_end}
 
 -- reads the next node of a text of this format, for addresses of `most` bits, with at most `room` levels below it
 abbrev pub node_due_at : Format → ℕ → List Label → ℕ → Place → Result (Tree × Place) CertFault
@@ -112,11 +112,11 @@ BeginsWithChain most count text =
 abbrev pub node_from : List DueLine → ℕ → Node
 node_from lines number = first_node (nodes_of (drop number lines))
 
--- the lines are those of whole nodes without chains, whose runs have at most 128 bits
+-- the lines are those of whole nodes without chains, whose spines have at most 128 bits
 pub record ArePlain (lines : List DueLine) : Type 0 where
   pub whole : AreWhole lines
   pub plain : All (λ line. IsPlain (node_of line)) lines
-  pub short : (k side : ℕ) → length (run_bits nat_eq side (node_from lines k)) ≤ 128
+  pub short : (k side : ℕ) → length (spine_bits nat_eq side (node_from lines k)) ≤ 128
 
 -- The lines of the node at line `number` and of those below it end before line `end`.
 pub record EndsAt (lines : List DueLine) (number end : ℕ) : Type 0 where
@@ -154,32 +154,32 @@ pub record HasHalves (lines : List DueLine) (all : List ℕ) (number lower upper
   pub up_after : number < upper
   pub rest : drop 1 (nodes_of (drop number lines)) ≡ drop 1 (nodes_of (drop upper lines))
 
--- a run of the side label steps from line `number` by this bit to the chosen half
+-- a spine of the side label steps from line `number` by this bit to the chosen half
 pub record IsStep (lines : List DueLine) (all : List ℕ) (side number : ℕ) (bit : Bool) (chosen : ℕ) : Type 0 where
-  pub bits : run_bits nat_eq side (node_from lines number) ≡ bit ∷ run_bits nat_eq side (node_from lines chosen)
-  pub end : run_end nat_eq side (node_from lines number) ≡ run_end nat_eq side (node_from lines chosen)
+  pub bits : spine_bits nat_eq side (node_from lines number) ≡ bit ∷ spine_bits nat_eq side (node_from lines chosen)
+  pub end : spine_end nat_eq side (node_from lines number) ≡ spine_end nat_eq side (node_from lines chosen)
   pub after : number < chosen
   pub place : HasPlace lines all chosen
 
--- the run of the side label from line `number` has these bits and ends at line `end`
-pub record IsRun (lines : List DueLine) (all : List ℕ) (side number : ℕ) (bits : List Bool) (end : ℕ) : Type 0 where
-  pub bits_are : bits ≡ run_bits nat_eq side (node_from lines number)
-  pub node : node_from lines end ≡ run_end nat_eq side (node_from lines number)
+-- the spine of the side label from line `number` has these bits and ends at line `end`
+pub record IsSpine (lines : List DueLine) (all : List ℕ) (side number : ℕ) (bits : List Bool) (end : ℕ) : Type 0 where
+  pub bits_are : bits ≡ spine_bits nat_eq side (node_from lines number)
+  pub node : node_from lines end ≡ spine_end nat_eq side (node_from lines number)
   pub place : HasPlace lines all end
   pub after : number + length bits ≤ end
 
--- the side label of a node's run
+-- the side label of a node's spine
 abbrev pub side_below : Node → Option ℕ
 side_below (InnerNode claim lower upper) = side_of lower upper
 side_below _ = None
 
 abbrev pub IsShort : Node → Type 0
-IsShort node = (side : ℕ) → side_below node ≡ Some side → length (run_bits nat_eq side node) < 2
+IsShort node = (side : ℕ) → side_below node ≡ Some side → length (spine_bits nat_eq side node) < 2
 
--- the run from line `number` has this side label, two bits or more, which are `bits`, and ends at line `end`
+-- the spine from line `number` has this side label, two bits or more, which are `bits`, and ends at line `end`
 pub record IsLong (lines : List DueLine) (all : List ℕ) (number side : ℕ) (bits : List Bool) (end : ℕ) : Type 0 where
   pub sides : side_below (node_from lines number) ≡ Some side
-  pub run : IsRun lines all side number bits end
+  pub spine : IsSpine lines all side number bits end
   pub long : 2 ≤ length bits
 
 abbrev pub IsShallow : Node → Type 0

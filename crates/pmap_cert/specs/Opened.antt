@@ -7,8 +7,8 @@ use Rattle.pmap_cert.specs.CertificateModel.{ChainNode, ClaimOf, InnerNode, Leaf
 use Rattle.pmap_cert.specs.Node.{Node, first_node, node_lines}
 use Rattle.pmap_cert.specs.Paths.{digit, path_to}
 
--- A compact node and the node with each of its chains opened: a chain turns into the inner nodes of its run, each with
--- its exact claim, and the leaves beside them.
+-- A compact node and the node with each of its chains opened: a chain turns into the inner nodes of its spine, each
+-- with its exact claim, and the leaves beside them.
 
 abbrev pub numbers_of : List LabelId → List ℕ
 numbers_of ids = map (λ id. id.0) ids
@@ -21,8 +21,8 @@ abbrev pub with_number : ℕ → List ℕ → List ℕ
 with_number n [] = n ∷ []
 with_number n (m ∷ ms) = if nat_lt n m then n ∷ m ∷ ms else m ∷ with_number n ms
 
--- The claim of a node of a run that has `more` nodes of the run below it, by the side label and the claim of the run's
--- end.
+-- The claim of a node of a spine that has `more` nodes of the spine below it, by the side label and the claim of the
+-- spine's end.
 abbrev pub set_above : ℕ → List ℕ → ℕ → List ℕ
 set_above side set zero = if has_number set side then side ∷ [] else with_number side set
 set_above side set (suc more) = side ∷ []
@@ -33,12 +33,12 @@ cost_above side end = if has_number end.labels side then end.cost else end.cost 
 abbrev pub claim_above : ℕ → ClaimOf ℕ → ℕ → ClaimOf ℕ
 claim_above side end more = record { cost = cost_above side end; labels = set_above side end.labels more }
 
--- an inner node over the half that a run chooses, the lower one if the digit is 0, and the side block's leaf
+-- an inner node over the half that a spine chooses, the lower one if the digit is 0, and the side block's leaf
 abbrev pub node_over : ℕ → ClaimOf ℕ → Node → Node → Node
 node_over zero claim path side = InnerNode claim path side
 node_over (suc digit) claim path side = InnerNode claim side path
 
--- the node from which a run of `bits` bits leads to the node `end`, whose block has the number `value`
+-- the node from which a spine of `bits` bits leads to the node `end`, whose block has the number `value`
 abbrev pub path_node : ℕ → ℕ → ℕ → Node → Node
 path_node side value zero end = end
 path_node side value (suc bits) end =
@@ -51,7 +51,7 @@ pub record OpensInner (claim : ClaimOf ℕ) (OpensLower OpensUpper : Node → Ty
   pub high : OpensUpper upper
   pub node_is : node ≡ InnerNode claim lower upper
 
--- the chain has two bits or more, and its claim is the exact one of the run's first node
+-- the chain has two bits or more, and its claim is the exact one of the spine's first node
 pub record OpensChain (claim : ClaimOf ℕ) (bits : List Bool) (side : ℕ) (OpensEnd : Node → Type 0)
     (node : Node) : Type 0 where
   pub value : ℕ

@@ -9,8 +9,8 @@ ghost use Rattle.pmap_cert.specs.CertificateText.{HasFormatText, HasTextForm, ce
 ghost use Rattle.pmap_cert.specs.CertificateModel.{CertificateModel, InnerNode, LeafNode, Claim, Tree};
 ghost use Rattle.pmap_cert.specs.CertificateModel.{claim_of, IsOfFormat, IsPlain, chain_claim, opened_tree};
 ghost use Rattle.pmap_cert.specs.CertificateModel.{opened_certificate, claim_by_bits, IsSameClaim};
-ghost use Rattle.pmap_cert.specs.Compacting.{HasNoRun, IsSameShape, IsPath, OpensTo, compact, compacted};
-ghost use Rattle.pmap_cert.specs.Compacting.{line_count, run_bits, run_compacted, run_end, side_of};
+ghost use Rattle.pmap_cert.specs.Compacting.{HasNoSpine, IsSameShape, IsPath, OpensTo, compact, compacted};
+ghost use Rattle.pmap_cert.specs.Compacting.{line_count, side_of, spine_bits, spine_compacted, spine_end};
 ghost use Rattle.pmap_cert.specs.FormatReading.{format_reading, CertFault};
 
 /// A chain's exact claim, which `chain_claim` gives in one step, equals the exact claim taken bit by bit from the end
@@ -46,12 +46,13 @@ pub fn compact_has_no_more_lines()
 {}
 
 /// If a certificate of format 1 is compacted, opening its chains gives back the same tree with the same labels, and the
-/// same claims except at the inner nodes below a chain's top. No run is left in the compacted certificate.
+/// same claims except at the inner nodes below a chain's top. No spine of two inner nodes is left in the compacted
+/// certificate.
 pub fn compact_opens_to_the_same()
     ensures shape { (c : CertificateModel) → c.format ≡ 1 → IsPlain c.root →
         IsSameShape (opened_tree (compact c).root) c.root }
     ensures claims { (c : CertificateModel) → c.format ≡ 1 → IsPlain c.root → OpensTo (compact c).root c.root }
-    ensures runs { (c : CertificateModel) → c.format ≡ 1 → IsPlain c.root → HasNoRun (compact c).root }
+    ensures spines { (c : CertificateModel) → c.format ≡ 1 → IsPlain c.root → HasNoSpine (compact c).root }
 {}
 
 /// Compacting changes neither a certificate of format 2 nor one that was compacted already.
@@ -60,16 +61,16 @@ pub fn compact_gives_back_equal()
     ensures twice { (c : CertificateModel) → IsOfFormat c → compact (compact c) ≡ compact c }
 {}
 
-/// A tree is compacted from its root down: each inner node by its run, and a leaf stays as it is. A run is a path whose
-/// side leaves all have the side label, and no such path from the same node is longer.
-pub fn compacting_is_by_longest_runs()
+/// A tree is compacted from its root down: each inner node by its spine, and a leaf stays as it is. A spine is a path
+/// whose side leaves all have the side label, and no such path from the same node is longer.
+pub fn compacting_is_by_longest_spines()
     ensures inner { (claim : Claim) (lower upper : Tree) → compacted bytes_eq (InnerNode claim lower upper)
-        ≡ run_compacted bytes_eq (compacted bytes_eq) claim lower upper (side_of lower upper) }
+        ≡ spine_compacted bytes_eq (compacted bytes_eq) claim lower upper (side_of lower upper) }
     ensures leaf { (x : Label) → compacted bytes_eq (LeafNode x) ≡ LeafNode x }
     ensures path { (side : Label) (node : Tree) →
-        IsPath (λ end. end ≡ run_end bytes_eq side node) side (run_bits bytes_eq side node) node }
+        IsPath (λ end. end ≡ spine_end bytes_eq side node) side (spine_bits bytes_eq side node) node }
     ensures longest { (side : Label) (node : Tree) (bits : List Bool) →
-        IsPath (λ end. Unit {0}) side bits node → length bits ≤ length (run_bits bytes_eq side node) }
+        IsPath (λ end. Unit {0}) side bits node → length bits ≤ length (spine_bits bytes_eq side node) }
 {}
 
 /// A certificate with a text of its format, compacted, has one. One with a text of format 1 has a text of its format.

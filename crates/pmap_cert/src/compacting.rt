@@ -1,4 +1,5 @@
-//! Compacting: a chain replaces each run of inner nodes that each have a leaf of the same label in one half.
+//! Compacting: a chain replaces each spine of two inner nodes or more. A spine is a path down the tree whose inner
+//! nodes each have a leaf in the half beside the path. These leaves have the same label, the side label.
 ghost use Rattle.std.specs.Coded.{→_prop};
 ghost use Rattle.std.specs.Prelude.{◌≡◌, ◌<◌, [], IfOk, IsSome, MatchOption, length, nat_eq, option_map};
 ghost use Rattle.flow_io.specs.Sinks.{Pushes};
@@ -9,7 +10,7 @@ ghost use Rattle.pmap_cert.specs.Opened.{node_text};
 ghost use Rattle.pmap_cert.specs.Packed.{bits_in};
 ghost use Rattle.pmap_cert.specs.declared.format.Format.TheVariants.{One};
 ghost use Rattle.pmap_cert.specs.Inner.{AreEndsFrom, AreEndsFrom-prop, ArePlain, EndsAt, HasHalves};
-ghost use Rattle.pmap_cert.specs.Inner.{HasPlace, IsLong, IsRun, IsShort, IsStep, node_from};
+ghost use Rattle.pmap_cert.specs.Inner.{HasPlace, IsLong, IsShort, IsSpine, IsStep, node_from};
 
 use crate::certificate::Certificate;
 use crate::certificate_reading::read_cert;
@@ -81,11 +82,11 @@ fn is_side(nodes: &Nodes, number: usize, label: LabelId) -> bool
     leaf_label(nodes, number) == Some(label)
 }
 
-// Returns the next step of a run of the side label from the node at line `number`: the bit and the line of the chosen
-// half, or `None` if the run ends there.
+// Returns the next step of a spine of the side label from the node at line `number`: the bit and the line of the chosen
+// half, or `None` if the spine ends there.
 fn step(nodes: &Nodes, ends: &[usize], number: usize, side: LabelId) -> Option<(bool, usize)>
     requires { HasPlace nodes.now ends.now number }
-    ensures { MatchOption result (IsRun nodes.now ends.now side.0 number [] number)
+    ensures { MatchOption result (IsSpine nodes.now ends.now side.0 number [] number)
         (λ x. IsStep nodes.now ends.now side.0 number x.0 x.1) }
 {
     let (lower, upper) = halves_of(nodes, ends, number)?;
@@ -98,10 +99,10 @@ fn step(nodes: &Nodes, ends: &[usize], number: usize, side: LabelId) -> Option<(
     }
 }
 
-// Follows a run of the side label from line `first`, and returns its bits and the line of the node at its end.
+// Follows a spine of the side label from line `first`, and returns its bits and the line of the node at its end.
 fn go_down(nodes: &Nodes, ends: &[usize], first: usize, side: LabelId) -> (Path, usize)
     requires { HasPlace nodes.now ends.now first }
-    ensures { IsRun nodes.now ends.now side.0 first (bits_in result.0) result.1 }
+    ensures { IsSpine nodes.now ends.now side.0 first (bits_in result.0) result.1 }
 {
     let mut path = Path { value: 0, count: 0 };
     let mut number = first;
@@ -112,7 +113,7 @@ fn go_down(nodes: &Nodes, ends: &[usize], first: usize, side: LabelId) -> (Path,
     (path, number)
 }
 
-// The side label of the run of an inner node whose halves have these lines.
+// The side label of the spine of an inner node whose halves have these lines.
 fn side_of(nodes: &Nodes, lower: usize, upper: usize) -> Option<LabelId>
     requires plain { ArePlain nodes.now }
     requires lower { lower < length nodes.now }
@@ -123,9 +124,9 @@ fn side_of(nodes: &Nodes, lower: usize, upper: usize) -> Option<LabelId>
     leaf_label(nodes, lower).or_else(|| leaf_label(nodes, upper))
 }
 
-// Returns the bits, the side label and the end's line of the run from an inner node whose halves have these lines, or
-// `None` if the run has fewer than two bits.
-fn run_of(
+// Returns the bits, the side label and the end's line of the spine from an inner node whose halves have these lines, or
+// `None` if the spine has fewer than two bits.
+fn spine_of(
     nodes: &Nodes,
     ends: &[usize],
     number: usize,
@@ -158,7 +159,7 @@ fn compact_node<S: Sink>(
     let Some(halves) = halves_of(nodes, ends, number) else {
         return push_line(out, nodes.node(number));
     };
-    match run_of(nodes, ends, number, halves) {
+    match spine_of(nodes, ends, number, halves) {
         Some((path, side, end)) => {
             let chain = Node::Chain {
                 claim: nodes.claim(number),
@@ -219,8 +220,8 @@ impl Printable for CompactText<'_> {
     }
 }
 
-/// Compacts a certificate. In one of format 1, from the root down, a chain replaces each run of two or more inner nodes
-/// that each have a leaf of the same label in one half, and the format becomes 2. One of format 2 is copied.
+/// Compacts a certificate. In one of format 1, from the root down, a chain replaces each spine of two or more inner
+/// nodes, which each have a leaf of the same label in one half, and the format becomes 2. One of format 2 is copied.
 pub fn compact(alloc: Global, certificate: &Certificate) -> Result<Certificate, AllocError>
     ensures { IfOk result (λ found. certificate_of found ≡ compact (certificate_of certificate.now)) }
 {

@@ -22,8 +22,8 @@
 //! of a list is read back, so that the certificate of a minimal pair is accepted for the list that is read. The type
 //! `Certificate` ensures that labels are in the table, that the numbers of each set ascend, that no node is deeper than
 //! an address has bits, and that format 1 has no chain. `write_cert` writes the one text of a certificate of either
-//! format. `read_cert` reads exactly these texts, and reports the first fault of any other. `compact` replaces runs of
-//! inner nodes by chains; if the certificate is accepted, so is the result.
+//! format. `read_cert` reads exactly these texts, and reports the first fault of any other. `compact` replaces spines,
+//! paths of inner nodes beside leaves of one label, by chains; if the certificate is accepted, so is the result.
 #![tactic(auto)]
 
 mod certificate;
@@ -51,7 +51,7 @@ pub use certificate_reading::{Head, read_cert, read_cert_with_hashing, read_head
 pub use chain_laws::{
     chain_claim_is_bit_by_bit, compact_gives_back_equal, compact_has_a_text,
     compact_has_no_more_lines, compact_keeps_acceptance, compact_opens_to_the_same,
-    compacting_is_by_longest_runs, opened_is_accepted, text_of_format_is_read_or_has_a_fault,
+    compacting_is_by_longest_spines, opened_is_accepted, text_of_format_is_read_or_has_a_fault,
 };
 pub use compacting::{CompactText, compact};
 pub use cursor::Cursor;

@@ -11,17 +11,17 @@ use Rattle.pmap_stretches.specs.Stretches.{AreStretches, StretchesModel}
 use Rattle.pmap_model.specs.declared.map_text.MapText.{MapText}
 use Rattle.pmap_cert.specs.FormatReading.{ChainLine, DueLine, InnerLine, LeafLine}
 use Rattle.pmap_cert.specs.CertificateModel.{ChainNode, ClaimOf, InnerNode, LeafNode, claim_of}
-use Rattle.pmap_cert.specs.Compacting.{compacted, leaf_label, run_bits, run_end, side_of}
+use Rattle.pmap_cert.specs.Compacting.{compacted, leaf_label, side_of, spine_bits, spine_end}
 use Rattle.pmap_cert.specs.Node.{Node, node_lines, node_of}
 use Rattle.pmap_cert.specs.CertificateText.{IsAscending}
 use Rattle.pmap_cert.specs.Inner.{IsShort, side_below}
 use Rattle.pmap_cert.proofs.CompactNodes.{compact-chain, compact-short}
-use Rattle.pmap_cert.proofs.Runs.{compacted-leaf}
+use Rattle.pmap_cert.proofs.Spines.{compacted-leaf}
 use Rattle.pmap_model.specs.MapModel.{MapModel}
 use Rattle.pmap_model.specs.Label.{IsLabelTable}
 use Rattle.pmap_model.proofs.Ends.{ends_most}
 use Rattle.pmap_stretches.proofs.Settling.{map_is}
-use Rattle.pmap_minimise.specs.Runs.{AreCountable, AreCountedHalves, HasNoLongRun, IsCounted, IsChoice, IsWindowNode, IsMapOn, AreSteps, IsRunTo, IsStepInto, IsStop, own_label}
+use Rattle.pmap_minimise.specs.Spines.{AreCountable, AreCountedHalves, HasNoLongSpine, IsCounted, IsChoice, IsWindowNode, IsMapOn, AreSteps, IsSpineTo, IsStepInto, IsStop, own_label}
 use Rattle.pmap_stretches.specs.Windows.{IsWindow, window_number}
 use Rattle.pmap_stretches.specs.declared.stretches.window.Window.{Window}
 use Rattle.pmap_minimise.specs.Built.{AddsInner, AreHalves, IsBuilt, IsBuiltIn, claim_at, last_claim}
@@ -29,7 +29,7 @@ use Rattle.pmap_cert.specs.Opened.{Opens, claim_above, cost_above, path_node}
 use Rattle.pmap_cert.specs.Paths.{path_to}
 use Rattle.pmap_cert.proofs.Paths.{path-length}
 use Rattle.pmap_minimise.specs.Numbers.{IsExact, IsSound}
-use Rattle.pmap_minimise.proofs.MadeNodes.{AreSameHalves, halves-made, leaf-made, made-side, made-stop, run-below, run-down, run-made, same-halves, step-by}
+use Rattle.pmap_minimise.proofs.MadeNodes.{AreSameHalves, halves-made, leaf-made, made-side, made-stop, same-halves, spine-below, spine-down, spine-made, step-by}
 use Rattle.pmap_minimise.proofs.Joined.{moved}
 use Rattle.pmap_minimise.proofs.Texts.{exact-ascending}
 use Rattle.prefix_keys.proofs.Groups.{width-le}
@@ -126,69 +126,69 @@ leaf-of (ChainNode claim bits side end) n is = absurd (none-some n is)
 
 -- The node of two halves.
 module _ (s : StretchesModel) (a low high : Window) (lower upper : Node) (are : AreCountedHalves s a low high) (low_made : IsWindowNode s low lower) (high_made : IsWindowNode s high upper) where
-  -- the run of the node has at most one bit if that of the block has
-  short-run : (claim : ClaimOf ℕ) (side : ℕ) (end : Window) → IsWindowNode s a (InnerNode claim lower upper) → (run : IsRunTo s side a end) → run.count < 2
-      → length (run_bits nat_eq side (InnerNode claim lower upper)) < 2
-  short-run claim side end made run few = by run.count few run.run
+  -- the spine of the node has at most one bit if that of the block has
+  short-spine : (claim : ClaimOf ℕ) (side : ℕ) (end : Window) → IsWindowNode s a (InnerNode claim lower upper) → (spine : IsSpineTo s side a end) → spine.count < 2
+      → length (spine_bits nat_eq side (InnerNode claim lower upper)) < 2
+  short-spine claim side end made spine few = by spine.count few spine.steps
     where
       whole : Node
       whole = InnerNode claim lower upper
 
-      by : (count : ℕ) → count < 2 → AreSteps s side count a end → length (run_bits nat_eq side whole) < 2
+      by : (count : ℕ) → count < 2 → AreSteps s side count a end → length (spine_bits nat_eq side whole) < 2
       by zero few is =
-          let none = made-stop s side a whole made (subst (IsStop s side) is run.stop) in
+          let none = made-stop s side a whole made (subst (IsStop s side) is spine.stop) in
           let count = ap length none.0 in
           omega arith
       by (suc zero) few is = go is.1.choice
         where
           own : (x : Window) → is.0 ≡ x → IsStop s side x
-          own x same = subst (IsStop s side) (is.2 ∙ same) run.stop
+          own x same = subst (IsStop s side) (is.2 ∙ same) spine.stop
 
           same : AreSameHalves is.1.low is.1.high low high
           same = same-halves s a is.1.low is.1.high low high is.1.halves are
 
-          go : IsChoice s side is.1.low is.1.high is.0 → length (run_bits nat_eq side whole) < 2
+          go : IsChoice s side is.1.low is.1.high is.0 → length (spine_bits nat_eq side whole) < 2
           go (inl up) =
               let none = made-stop s side high upper high_made (own high (up.0 ∙ same.high_is)) in
               let leaf : lower ≡ LeafNode side = leaf-of lower side (low_made.own ∙ ap (own_label s) (sym same.low_is) ∙ up.1) in
-              let bits = ap (λ (n : Node). run_bits nat_eq side (InnerNode claim n upper)) leaf ∙ (down-high side claim upper).0 in
+              let bits = ap (λ (n : Node). spine_bits nat_eq side (InnerNode claim n upper)) leaf ∙ (down-high side claim upper).0 in
               let count = ap length bits in
               let count' = ap length none.0 in
               omega arith
           go (inr down) =
               let none = made-stop s side low lower low_made (own low (down.0 ∙ same.low_is)) in
               let leaf : upper ≡ LeafNode side = leaf-of upper side (high_made.own ∙ ap (own_label s) (sym same.high_is) ∙ down.2) in
-              let bits = ap (λ (n : Node). run_bits nat_eq side (InnerNode claim lower n)) leaf
+              let bits = ap (λ (n : Node). spine_bits nat_eq side (InnerNode claim lower n)) leaf
               ∙ (down-low side claim lower (λ e. down.1 (ap (own_label s) same.low_is ∙ sym low_made.own ∙ e))).0 in
               let count = ap length bits in
               let count' = ap length none.0 in
               omega arith
       by (suc (suc count)) few is = absurd (omega arith)
 
--- the run from a block has fewer than two bits, by the side label of its halves, if they have one
-abbrev pub IsShortRun : StretchesModel → Window → Option ℕ → Type 0
-IsShortRun s a None = Unit {0}
-IsShortRun s a (Some side) = (end : Window) × (run : IsRunTo s side a end) × (run.count < 2)
+-- the spine from a block has fewer than two bits, by the side label of its halves, if they have one
+abbrev pub IsShortSpine : StretchesModel → Window → Option ℕ → Type 0
+IsShortSpine s a None = Unit {0}
+IsShortSpine s a (Some side) = (end : Window) × (spine : IsSpineTo s side a end) × (spine.count < 2)
 
--- a run has at most one step if both halves of the block are in one stretch
-pub short-halves : (s : StretchesModel) (a low high : Window) → AreCountedHalves s a low high → HasNoLongRun s low high → IsShortRun s a (option_or (own_label s low) (own_label s high))
-short-halves s a low high halves (inl none) = subst (IsShortRun s a) (sym none) tt
+-- a spine has at most one step if both halves of the block are in one stretch
+pub short-halves : (s : StretchesModel) (a low high : Window) → AreCountedHalves s a low high → HasNoLongSpine s low high → IsShortSpine s a (option_or (own_label s low) (own_label s high))
+short-halves s a low high halves (inl none) = subst (IsShortSpine s a) (sym none) tt
 short-halves s a low high halves (inr single) = by (own_label s low) (own_label s high) refl refl
   where
-    one : (side : ℕ) (chosen : Window) → IsChoice s side low high chosen → chosen.from ≡ chosen.to → IsCounted s chosen → IsShortRun s a (Some side)
+    one : (side : ℕ) (chosen : Window) → IsChoice s side low high chosen → chosen.from ≡ chosen.to → IsCounted s chosen → IsShortSpine s a (Some side)
     one side chosen choice end counted =
         let step : IsStepInto s side a chosen = record { low = low; high = high; halves = halves; choice = choice } in
         let len = (step-by s side a chosen step).len in
-        (chosen, record { count = suc zero; run = (chosen, step, refl); stop = inl end; counted = counted; len = omega arith }, omega arith)
+        (chosen, record { count = suc zero; steps = (chosen, step, refl); stop = inl end; counted = counted; len = omega arith }, omega arith)
 
-    by : (o p : Option ℕ) → own_label s low ≡ o → own_label s high ≡ p → IsShortRun s a (option_or o p)
+    by : (o p : Option ℕ) → own_label s low ≡ o → own_label s high ≡ p → IsShortSpine s a (option_or o p)
     by (Some side) p low_is high_is = one side high (inl (refl, low_is)) single.1 halves.high_counted
     by None (Some side) low_is high_is = one side low (inr (refl, (λ own. absurd (none-some side (sym low_is ∙ own))), high_is)) single.0 halves.low_counted
     by None None low_is high_is = tt
 
--- an inner node's line completes a block with two halves and a short run
+-- an inner node's line completes a block with two halves and a short spine
 pub halves-built : (s : StretchesModel) (a low high : Window) (old middle after new : List DueLine) → IsCounted s a → AreCountedHalves s a low high
-    → IsShortRun s a (option_or (own_label s low) (own_label s high)) → IsBuilt s high old middle → IsBuilt s low middle after → AddsInner (length middle - 1) after new
+    → IsShortSpine s a (option_or (own_label s low) (own_label s high)) → IsBuilt s high old middle → IsBuilt s low middle after → AddsInner (length middle - 1) after new
     → IsBuilt s a old new
 halves-built s a low high old middle after new is are short upper lower adds =
     let below = built-claim s low middle after lower in
@@ -210,25 +210,25 @@ halves-built s a low high old middle after new is are short upper lower adds =
     labels : side_of lower.node upper.node ≡ option_or (own_label s low) (own_label s high)
     labels = λ i. option_or (lower.made.own i) (upper.made.own i)
 
-    few : IsWindowNode s a (InnerNode adds.claim lower.node upper.node) → (o : Option ℕ) → option_or (own_label s low) (own_label s high) ≡ o → IsShortRun s a o
+    few : IsWindowNode s a (InnerNode adds.claim lower.node upper.node) → (o : Option ℕ) → option_or (own_label s low) (own_label s high) ≡ o → IsShortSpine s a o
         → IsShort (InnerNode adds.claim lower.node upper.node)
     few made None e short = λ side f. absurd (none-some side (sym (labels ∙ e) ∙ f))
     few made (Some other) e short = λ side f.
-        subst (λ (x : ℕ). length (run_bits nat_eq x (InnerNode adds.claim lower.node upper.node)) < 2) (same_Some other side (sym (labels ∙ e) ∙ f))
-        (short-run s a low high lower.node upper.node are lower.made upper.made adds.claim other short.0 made short.1 short.2)
+        subst (λ (x : ℕ). length (spine_bits nat_eq x (InnerNode adds.claim lower.node upper.node)) < 2) (same_Some other side (sym (labels ∙ e) ∙ f))
+        (short-spine s a low high lower.node upper.node are lower.made upper.made adds.claim other short.0 made short.1 short.2)
 
--- a chain's line completes a block from which a run of two bits or more leads to its end
+-- a chain's line completes a block from which a spine of two bits or more leads to its end
 pub chain-built : (s : StretchesModel) (a low high end : Window) (old middle new : List DueLine) (side number bits : ℕ) → IsCounted s a → AreCountedHalves s a low high
-    → option_or (own_label s low) (own_label s high) ≡ Some side → side < 2 ^ 32 → (run : IsRunTo s side a end) → 2 ≤ run.count → bits ≡ end.len - a.len → number ≡ window_number s end
+    → option_or (own_label s low) (own_label s high) ≡ Some side → side < 2 ^ 32 → (spine : IsSpineTo s side a end) → 2 ≤ spine.count → bits ≡ end.len - a.len → number ≡ window_number s end
     → IsBuilt s end old middle → new ≡ middle ++ ChainLine (cost_above side (last_claim middle)) (path_to number bits) side (side ∷ []) ∷ [] → IsBuilt s a old new
-chain-built s a low high end old middle new side number bits is are label fits run more bits_same number_is built own =
-    let len = run.len in
-    let bits_is : bits ≡ run.count = omega (arith, bits_same) in
+chain-built s a low high end old middle new side number bits is are label fits spine more bits_same number_is built own =
+    let len = spine.len in
+    let bits_is : bits ≡ spine.count = omega (arith, bits_same) in
     let value : ℕ = window_number s end in
-    let count : ℕ = run.count in
+    let count : ℕ = spine.count in
     let node : Node = path_node side value count built.node in
-    let made = run-made s side fits end built.node built.made count a is run.run in
-    let down = run-down s side fits end built.node built.made run.stop count a is run.run in
+    let made = spine-made s side fits end built.node built.made count a is spine.steps in
+    let down = spine-down s side fits end built.node built.made spine.stop count a is spine.steps in
     let parts = made.halves low high are in
     let claim : ClaimOf ℕ = claim_above side (claim_of built.node) 1 in
     let cost : cost_above side (last_claim middle) ≡ claim.cost = ap (cost_above side) (built-claim s end old middle built).claim in
@@ -241,17 +241,17 @@ chain-built s a low high end old middle new side number bits is are label fits r
       claim_is = refl;
       bits_are = refl;
       long = more;
-      few = let inside = run.counted.window.within in omega (arith, width-le s.version);
+      few = let inside = spine.counted.window.within in omega (arith, width-le s.version);
       node_is = refl;
     } in
     let whole : Node = InnerNode parts.claim parts.lower parts.upper in
-    let run_is = ap (run_bits nat_eq side) (sym parts.node_is) ∙ down.bits in
+    let spine_is = ap (spine_bits nat_eq side) (sym parts.node_is) ∙ down.bits in
     let sides : side_of parts.lower parts.upper ≡ Some side = sym (ap side_below parts.node_is) ∙ made-side s a low high node made are ∙ label in
     let compact_is : compacted nat_eq node ≡ compact =
     ap (compacted nat_eq) parts.node_is
-    ∙ compact-chain parts.claim parts.lower parts.upper side sides (omega (arith, path-length value count, ap length run_is))
-    ∙ (λ i. ChainNode (sym (opens-claim compact node opens ∙ ap claim_of parts.node_is) i) (run_is i) side
-    (compacted nat_eq ((ap (run_end nat_eq side) (sym parts.node_is) ∙ down.last) i))) in
+    ∙ compact-chain parts.claim parts.lower parts.upper side sides (omega (arith, path-length value count, ap length spine_is))
+    ∙ (λ i. ChainNode (sym (opens-claim compact node opens ∙ ap claim_of parts.node_is) i) (spine_is i) side
+    (compacted nat_eq ((ap (spine_end nat_eq side) (sym parts.node_is) ∙ down.last) i))) in
     record {
       node = node;
       made = made;
@@ -294,10 +294,10 @@ map-countable m s are = record { statements = m.statements; default = Some m.def
 pub map-on : (m : MapText) (s : StretchesModel) → s.version ≡ m.version → AreStretches m.statements (Some m.default) s → IsLabelTable m.labels → IsMapOn s (map_of m)
 map-on m s version are ok = record { statements = m.statements; default = Some m.default; stretches = are; is = rw version (map_is m); table = ok }
 
--- the end of a run of two bits or more has fewer addresses than the run's first block
-pub end-smaller : (s : StretchesModel) (a end : Window) (side : ℕ) → IsCounted s a → (run : IsRunTo s side a end) → 2 ≤ run.count → end.last - end.first + 2 ≤ a.last - a.first
-end-smaller s a end side is run more =
-    let below = run-below s side run.count a end is run.run in
+-- the end of a spine of two bits or more has fewer addresses than the spine's first block
+pub end-smaller : (s : StretchesModel) (a end : Window) (side : ℕ) → IsCounted s a → (spine : IsSpineTo s side a end) → 2 ≤ spine.count → end.last - end.first + 2 ≤ a.last - a.first
+end-smaller s a end side is spine more =
+    let below = spine-below s side spine.count a end is spine.steps in
     let smaller = below.smaller in
     omega arith
 

@@ -39,7 +39,7 @@ pub form-passes : (count : ℕ) → PassesOn (HasNumberForm count)
 form-passes count claim lower upper zero form = absurd form.0
 form-passes count claim lower upper (suc room) form = (room, refl, (form.0.2, form.1.0), (form.0.3, form.1.1))
 
--- a node with the property has it at the end of a run too, with less room by the run's bits
+-- a node with the property has it at the end of a spine too, with less room by the spine's bits
 pub record IsDeep (Is : Node → ℕ → Type 0) (end : Node) (bits room : ℕ) : Type 0 where
   pub left : ℕ
   pub room_is : room ≡ left + bits
@@ -88,7 +88,7 @@ module _ (W : ℕ) (table : List Label) (side value : ℕ) (end : Node) where
   none : (s : List Label) (n q : ℕ) → has_label s x ≡ true → own_entry W table s (Some x) n q ≡ []
   none s n q there = cond-true (has_inherited s (Some x)) [] _ there
 
-  -- the entries of a run's node that passes on the side label: those of the half that the run chooses, since the side
+  -- the entries of a spine's node that passes on the side label: those of the half that the spine chooses, since the side
   -- block has none
   over-entries : (bits d n q : ℕ) (h : Option Label) → d < 2 → handed_on table (set bits) h ≡ Some x
       → entries_of W table (tree_of table (node_over d (claim_above side (claim_of end) bits) (path bits) (LeafNode side))) h n q

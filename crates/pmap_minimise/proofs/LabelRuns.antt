@@ -28,7 +28,7 @@ use Rattle.pmap_cert.proofs.InTableOrder.{pair-listed}
 use Rattle.pmap_cert.proofs.SameLists.{other, same-entries}
 use Rattle.pmap_minimise.specs.Built.{IsBuiltIn}
 use Rattle.pmap_minimise.specs.Listing.{IsListedBy}
-use Rattle.pmap_minimise.specs.Runs.{AreCountable, IsMapOn}
+use Rattle.pmap_minimise.specs.Spines.{AreCountable, IsMapOn}
 use Rattle.pmap_minimise.proofs.Distinct.{order-distinct}
 use Rattle.pmap_minimise.proofs.Texts.{table-has}
 use Rattle.pmap_minimise.proofs.Whole.{AreEntriesOf, list_with, listed-entries, own-labels}

@@ -10,5 +10,5 @@ pub mod MadeNodes
 pub mod BuiltNodes
 pub mod ChainEntries
 pub mod Reading
-pub mod RunEnds
+pub mod SpineEnds
 pub mod Claimed

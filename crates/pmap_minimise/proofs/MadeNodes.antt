@@ -12,14 +12,14 @@ use Rattle.pmap_model.specs.declared.label.LabelId.{LabelId}
 use Rattle.pmap_model.specs.declared.statement.Statement.{Statement}
 use Rattle.pmap_cert.specs.CertificateText.{IsAscending}
 use Rattle.pmap_cert.specs.CertificateModel.{ClaimOf, InnerNode, LeafNode, claim_of}
-use Rattle.pmap_cert.specs.Compacting.{leaf_label, run_bits, run_end}
+use Rattle.pmap_cert.specs.Compacting.{leaf_label, spine_bits, spine_end}
 use Rattle.pmap_cert.specs.Node.{Node}
 use Rattle.pmap_cert.specs.Inner.{side_below}
 use Rattle.pmap_stretches.specs.Windows.{divisions, AreHalvesOf, IsWindow, window_number}
 use Rattle.pmap_stretches.proofs.Settling.{Settles, window_divided, window_most, window_settled, window_unsettled}
 use Rattle.pmap_stretches.specs.declared.stretches.window.Window.{Window}
 use Rattle.pmap_stretches.proofs.Windows.{one_index, ordered_window}
-use Rattle.pmap_minimise.specs.Runs.{AreCountedHalves, IsCounted, IsChoice, IsWindowNode, AreSteps, IsRunTo, IsStepInto, IsStop, own_label}
+use Rattle.pmap_minimise.specs.Spines.{AreCountedHalves, IsCounted, IsChoice, IsWindowNode, AreSteps, IsSpineTo, IsStepInto, IsStop, own_label}
 use Rattle.pmap_cert.specs.Paths.{digit, path_to}
 use Rattle.pmap_cert.specs.Opened.{claim_above, node_over, path_node}
 use Rattle.pmap_minimise.specs.Numbers.{IsExact, IsMapNode, IsSound}
@@ -164,18 +164,18 @@ module _ (s : StretchesModel) (a low high : Window) (lower upper : Node) (is : I
             };
       }
 
--- if no step leads on from a block, its node has no run
+-- if no step leads on from a block, its node has no spine
 pub made-stop : (s : StretchesModel) (side : ℕ) (a : Window) (node : Node) → IsWindowNode s a node → IsStop s side a
-    → (run_bits nat_eq side node ≡ []) × (run_end nat_eq side node ≡ node)
+    → (spine_bits nat_eq side node ≡ []) × (spine_end nat_eq side node ≡ node)
 made-stop s side a node made (inl single) =
     let leaf = made.single single in
-    (ap (run_bits nat_eq side) leaf.1, ap (run_end nat_eq side) leaf.1 ∙ sym leaf.1)
+    (ap (spine_bits nat_eq side) leaf.1, ap (spine_end nat_eq side) leaf.1 ∙ sym leaf.1)
 made-stop s side a node made (inr none) =
     let own = made.halves none.low none.high none.halves in
     let down = down-none side own.claim own.lower own.upper (λ e. none.low_other (sym own.low_label ∙ e)) (λ e. none.high_other (sym own.high_label ∙ e)) in
-    (ap (run_bits nat_eq side) own.node_is ∙ down.0, ap (run_end nat_eq side) own.node_is ∙ down.1 ∙ sym own.node_is)
+    (ap (spine_bits nat_eq side) own.node_is ∙ down.0, ap (spine_end nat_eq side) own.node_is ∙ down.1 ∙ sym own.node_is)
 
--- Runs.
+-- Spines.
 
 -- the end lies in the block, `count` bits deeper
 pub record IsBelow (s : StretchesModel) (count : ℕ) (a end : Window) : Type 0 where
@@ -254,22 +254,22 @@ step-by s side a chosen step = by step.choice
           smaller = smaller.1;
         })
 
--- a step before a run to its end
-pub step-to : (s : StretchesModel) (side : ℕ) (a chosen end : Window) → IsStepInto s side a chosen → IsRunTo s side chosen end → IsRunTo s side a end
-step-to s side a chosen end step run = record {
-  count = suc run.count;
-  run = (chosen, step, run.run);
-  stop = run.stop;
-  counted = run.counted;
-  len = omega (arith, (step-by s side a chosen step).len, run.len);
+-- a step before a spine to its end
+pub step-to : (s : StretchesModel) (side : ℕ) (a chosen end : Window) → IsStepInto s side a chosen → IsSpineTo s side chosen end → IsSpineTo s side a end
+step-to s side a chosen end step spine = record {
+  count = suc spine.count;
+  steps = (chosen, step, spine.steps);
+  stop = spine.stop;
+  counted = spine.counted;
+  len = omega (arith, (step-by s side a chosen step).len, spine.len);
 }
 
-pub run-below : (s : StretchesModel) (side count : ℕ) (a end : Window) → IsCounted s a → AreSteps s side count a end → IsBelow s count a end
-run-below s side zero a end is run =
-    subst (IsBelow s zero a) (sym run) (record { len = omega arith; number = omega arith; counted = is; smaller = omega arith })
-run-below s side (suc count) a end is run =
-    let step = step-by s side a run.0 run.1 in
-    let rest = run-below s side count run.0 end step.counted run.2 in
+pub spine-below : (s : StretchesModel) (side count : ℕ) (a end : Window) → IsCounted s a → AreSteps s side count a end → IsBelow s count a end
+spine-below s side zero a end is steps =
+    subst (IsBelow s zero a) (sym steps) (record { len = omega arith; number = omega arith; counted = is; smaller = omega arith })
+spine-below s side (suc count) a end is steps =
+    let step = step-by s side a steps.0 steps.1 in
+    let rest = spine-below s side count steps.0 end step.counted steps.2 in
     let len = rest.len in
     let len' = step.len in
     let smaller = rest.smaller in
@@ -283,7 +283,7 @@ run-below s side (suc count) a end is run =
       smaller = omega arith;
     }
 
--- the node from which a run leads to the node of its end
+-- the node from which a spine leads to the node of its end
 module _ (s : StretchesModel) (side : ℕ) (fits : side < 2 ^ 32) (end : Window) (node : Node) (made : IsWindowNode s end node) where
   abbrev value : ℕ
   value = window_number s end
@@ -295,45 +295,45 @@ module _ (s : StretchesModel) (side : ℕ) (fits : side < 2 ^ 32) (end : Window)
       → IsWindowNode s a (node_of (suc count))
   over-made a count d is same = subst (λ (k : ℕ). IsWindowNode s a (node_over k (claim_above side (claim_of node) count) (node_of count) (LeafNode side))) (sym same) is
 
-  pub run-made : (count : ℕ) (a : Window) → IsCounted s a → AreSteps s side count a end → IsWindowNode s a (node_of count)
-  run-made zero a is run = subst (λ (b : Window). IsWindowNode s b node) run made
-  run-made (suc count) a is run =
-      let step = step-by s side a run.0 run.1 in
-      by (run-below s side count run.0 end step.counted run.2) (run-made count run.0 step.counted run.2) run.1.choice
+  pub spine-made : (count : ℕ) (a : Window) → IsCounted s a → AreSteps s side count a end → IsWindowNode s a (node_of count)
+  spine-made zero a is steps = subst (λ (b : Window). IsWindowNode s b node) steps made
+  spine-made (suc count) a is steps =
+      let step = step-by s side a steps.0 steps.1 in
+      by (spine-below s side count steps.0 end step.counted steps.2) (spine-made count steps.0 step.counted steps.2) steps.1.choice
     where
-      halves : AreCountedHalves s a run.1.low run.1.high
-      halves = run.1.halves
+      halves : AreCountedHalves s a steps.1.low steps.1.high
+      halves = steps.1.halves
 
-      by : IsBelow s count run.0 end → IsWindowNode s run.0 (node_of count) → IsChoice s side run.1.low run.1.high run.0 → IsWindowNode s a (node_of (suc count))
+      by : IsBelow s count steps.0 end → IsWindowNode s steps.0 (node_of count) → IsChoice s side steps.1.low steps.1.high steps.0 → IsWindowNode s a (node_of (suc count))
       by below rest (inl high) =
           let number = below.number ∙ ap (window_number s) high.0 ∙ halves.halves.high_number in
           over-made a count 1
-          (halves-made s a run.1.low run.1.high (LeafNode side) (node_of count) is halves (leaf-made s run.1.low side halves.low_counted high.1 fits)
+          (halves-made s a steps.1.low steps.1.high (LeafNode side) (node_of count) is halves (leaf-made s steps.1.low side halves.low_counted high.1 fits)
           (subst (λ (b : Window). IsWindowNode s b (node_of count)) high.0 rest) (claim_above side (claim_of node) count)
           (path-high side fits node made.ascending value count) (above-ascending side fits node made.ascending count))
           (omega arith)
       by below rest (inr low) =
           let number = below.number ∙ ap (window_number s) low.0 ∙ halves.halves.low_number in
           over-made a count 0
-          (halves-made s a run.1.low run.1.high (node_of count) (LeafNode side) is halves (subst (λ (b : Window). IsWindowNode s b (node_of count)) low.0 rest)
-          (leaf-made s run.1.high side halves.high_counted low.2 fits) (claim_above side (claim_of node) count)
+          (halves-made s a steps.1.low steps.1.high (node_of count) (LeafNode side) is halves (subst (λ (b : Window). IsWindowNode s b (node_of count)) low.0 rest)
+          (leaf-made s steps.1.high side halves.high_counted low.2 fits) (claim_above side (claim_of node) count)
           (path-low side fits node made.ascending value count) (above-ascending side fits node made.ascending count))
           (omega arith)
 
-  -- the run from the node has `count` bits, and leads to the node of the end
+  -- the spine from the node has `count` bits, and leads to the node of the end
   pub record GoesDown (count : ℕ) : Type 0 where
-    pub bits : run_bits nat_eq side (node_of count) ≡ path_to value count
-    pub last : run_end nat_eq side (node_of count) ≡ node
+    pub bits : spine_bits nat_eq side (node_of count) ≡ path_to value count
+    pub last : spine_end nat_eq side (node_of count) ≡ node
 
   -- the node over another has one bit more
   abbrev over : ℕ → ℕ → Node
   over count d = node_over d (claim_above side (claim_of node) count) (node_of count) (LeafNode side)
 
-  goes-over : (count d : ℕ) → digit value count ≡ d → GoesDown count → run_bits nat_eq side (over count d) ≡ (d == 1) ∷ run_bits nat_eq side (node_of count)
-      → run_end nat_eq side (over count d) ≡ run_end nat_eq side (node_of count) → GoesDown (suc count)
+  goes-over : (count d : ℕ) → digit value count ≡ d → GoesDown count → spine_bits nat_eq side (over count d) ≡ (d == 1) ∷ spine_bits nat_eq side (node_of count)
+      → spine_end nat_eq side (over count d) ≡ spine_end nat_eq side (node_of count) → GoesDown (suc count)
   goes-over count d same down bits end = record {
-    bits = ap (λ (k : ℕ). run_bits nat_eq side (over count k)) same ∙ bits ∙ (λ i. (sym same i == 1) ∷ down.bits i);
-    last = ap (λ (k : ℕ). run_end nat_eq side (over count k)) same ∙ end ∙ down.last;
+    bits = ap (λ (k : ℕ). spine_bits nat_eq side (over count k)) same ∙ bits ∙ (λ i. (sym same i == 1) ∷ down.bits i);
+    last = ap (λ (k : ℕ). spine_end nat_eq side (over count k)) same ∙ end ∙ down.last;
   }
 
   over-down : (count d : ℕ) → digit value count ≡ d → d < 2 → (d ≡ 0 → leaf_label (node_of count) ≡ Some side → ⊥) → GoesDown count → GoesDown (suc count)
@@ -345,27 +345,27 @@ module _ (s : StretchesModel) (side : ℕ) (fits : side < 2 ^ 32) (end : Window)
       goes-over count 1 same down high.0 high.1
   over-down count (suc (suc d)) same small other down = absurd (omega arith)
 
-  -- if the run stops at the end
+  -- if the spine stops at the end
   module _ (stop : IsStop s side end) where
     stop-down : GoesDown zero
     stop-down = let none = made-stop s side end node made stop in record { bits = none.0; last = none.1 }
 
-    pub run-down : (count : ℕ) (a : Window) → IsCounted s a → AreSteps s side count a end → GoesDown count
-    run-down zero a is run = stop-down
-    run-down (suc count) a is run =
-        let step = step-by s side a run.0 run.1 in
-        by (run-below s side count run.0 end step.counted run.2) (run-made count run.0 step.counted run.2) (run-down count run.0 step.counted run.2) run.1.choice
+    pub spine-down : (count : ℕ) (a : Window) → IsCounted s a → AreSteps s side count a end → GoesDown count
+    spine-down zero a is steps = stop-down
+    spine-down (suc count) a is steps =
+        let step = step-by s side a steps.0 steps.1 in
+        by (spine-below s side count steps.0 end step.counted steps.2) (spine-made count steps.0 step.counted steps.2) (spine-down count steps.0 step.counted steps.2) steps.1.choice
       where
-        by : IsBelow s count run.0 end → IsWindowNode s run.0 (node_of count) → GoesDown count
-            → IsChoice s side run.1.low run.1.high run.0 → GoesDown (suc count)
+        by : IsBelow s count steps.0 end → IsWindowNode s steps.0 (node_of count) → GoesDown count
+            → IsChoice s side steps.1.low steps.1.high steps.0 → GoesDown (suc count)
         by below chosen rest (inl high) =
-            let number = below.number ∙ ap (window_number s) high.0 ∙ run.1.halves.halves.high_number in
+            let number = below.number ∙ ap (window_number s) high.0 ∙ steps.1.halves.halves.high_number in
             over-down count 1 (omega arith) (omega arith) (λ none. absurd (omega arith)) rest
         by below chosen rest (inr low) =
-            let number = below.number ∙ ap (window_number s) low.0 ∙ run.1.halves.halves.low_number in
+            let number = below.number ∙ ap (window_number s) low.0 ∙ steps.1.halves.halves.low_number in
             over-down count 0 (omega arith) (omega arith) (λ none e. low.1 (ap (own_label s) (sym low.0) ∙ sym chosen.own ∙ e)) rest
 
--- the side label of a run is that of a leaf right below the run's first node
+-- the side label of a spine is that of a leaf right below the spine's first node
 pub made-side : (s : StretchesModel) (a low high : Window) (node : Node) → IsWindowNode s a node → AreCountedHalves s a low high
     → side_below node ≡ option_or (own_label s low) (own_label s high)
 made-side s a low high node made are =

@@ -1,10 +1,10 @@
--- The nodes of a run: what they claim, and how the run goes down them.
+-- The nodes of a spine: what they claim, and how the spine goes down them.
 use Rattle.std.proofs.Common.{◌≡◌, ◌≢◌, ℕ, zero, suc, ◌+◌, ◌^◌, ◌<◌, ◌≤◌, inl, inr, ◌∙◌, ◌||◌, ◌==◌, Bool, true, false, cond, List, [], ◌∷◌, Some, nat_eq, refl, sym, ap, subst, arith}
 use Rattle.std.specs.List.{list_any}
 use Rattle.std.proofs.lemmas.Bool.{cases_lt, cond_above, cond_below, eq-eqb, eqb-true, ne_eqb}
 use Rattle.pmap_cert.specs.CertificateText.{IsAscending}
 use Rattle.pmap_cert.specs.CertificateModel.{ChainNode, ClaimOf, InnerNode, LeafNode, claim_of}
-use Rattle.pmap_cert.specs.Compacting.{is_side, leaf_label, run_bits, run_end}
+use Rattle.pmap_cert.specs.Compacting.{is_side, leaf_label, spine_bits, spine_end}
 use Rattle.pmap_cert.specs.Node.{Node}
 use Rattle.pmap_cert.proofs.OpenedTexts.{claim_over, path-claim}
 use Rattle.pmap_cert.specs.Opened.{claim_above, set_above, path_node, with_number}
@@ -51,7 +51,7 @@ with-any p n (m ∷ ms) =
 with-has : (n : ℕ) (set : List ℕ) → has_number (with_number n set) n ≡ true
 with-has n set = with-any (λ m. n == m) n set ∙ ap (λ (t : Bool). t || has_number set n) (eq-eqb n n refl)
 
--- each node of a run has the side label
+-- each node of a spine has the side label
 pub above-has : (side : ℕ) (set : List ℕ) (more : ℕ) → has_number (set_above side set more) side ≡ true
 above-has side set zero = by (has_number set side)
   where
@@ -77,7 +77,7 @@ with-ascending b k n (m ∷ ms) ascending least below none =
     rest true y e = absurd (true-not e)
     rest false y e = e
 
--- What the nodes of a run claim.
+-- What the nodes of a spine claim.
 module _ (side : ℕ) (fits : side < 2 ^ 32) (end : Node) (ascending : IsAscending (2 ^ 32) 0 (claim_of end).labels) where
   abbrev set : List ℕ
   set = (claim_of end).labels
@@ -151,25 +151,25 @@ no-leaf side (InnerNode claim lower upper) other = refl
 no-leaf side (ChainNode claim bits s end) other = refl
 
 pub down-high : (side : ℕ) (claim : ClaimOf ℕ) (upper : Node)
-    → (run_bits nat_eq side (InnerNode claim (LeafNode side) upper) ≡ true ∷ run_bits nat_eq side upper) × (run_end nat_eq side (InnerNode claim (LeafNode side) upper) ≡ run_end nat_eq side upper)
+    → (spine_bits nat_eq side (InnerNode claim (LeafNode side) upper) ≡ true ∷ spine_bits nat_eq side upper) × (spine_end nat_eq side (InnerNode claim (LeafNode side) upper) ≡ spine_end nat_eq side upper)
 down-high side claim upper = (
-  (λ i. cond (eq-eqb side side refl i) (true ∷ run_bits nat_eq side upper) (cond (is_side nat_eq side upper) (false ∷ run_bits nat_eq side (LeafNode side)) [])),
-  (λ i. cond (eq-eqb side side refl i) (run_end nat_eq side upper) (cond (is_side nat_eq side upper) (run_end nat_eq side (LeafNode side)) (InnerNode claim (LeafNode side) upper))),
+  (λ i. cond (eq-eqb side side refl i) (true ∷ spine_bits nat_eq side upper) (cond (is_side nat_eq side upper) (false ∷ spine_bits nat_eq side (LeafNode side)) [])),
+  (λ i. cond (eq-eqb side side refl i) (spine_end nat_eq side upper) (cond (is_side nat_eq side upper) (spine_end nat_eq side (LeafNode side)) (InnerNode claim (LeafNode side) upper))),
 )
 
 pub down-low : (side : ℕ) (claim : ClaimOf ℕ) (lower : Node) → (leaf_label lower ≡ Some side → ⊥)
-    → (run_bits nat_eq side (InnerNode claim lower (LeafNode side)) ≡ false ∷ run_bits nat_eq side lower) × (run_end nat_eq side (InnerNode claim lower (LeafNode side)) ≡ run_end nat_eq side lower)
+    → (spine_bits nat_eq side (InnerNode claim lower (LeafNode side)) ≡ false ∷ spine_bits nat_eq side lower) × (spine_end nat_eq side (InnerNode claim lower (LeafNode side)) ≡ spine_end nat_eq side lower)
 down-low side claim lower other =
     let none = no-leaf side lower other in (
-      (λ i. cond (none i) (true ∷ run_bits nat_eq side (LeafNode side)) (cond (eq-eqb side side refl i) (false ∷ run_bits nat_eq side lower) [])),
-      (λ i. cond (none i) (run_end nat_eq side (LeafNode side)) (cond (eq-eqb side side refl i) (run_end nat_eq side lower) (InnerNode claim lower (LeafNode side)))),
+      (λ i. cond (none i) (true ∷ spine_bits nat_eq side (LeafNode side)) (cond (eq-eqb side side refl i) (false ∷ spine_bits nat_eq side lower) [])),
+      (λ i. cond (none i) (spine_end nat_eq side (LeafNode side)) (cond (eq-eqb side side refl i) (spine_end nat_eq side lower) (InnerNode claim lower (LeafNode side)))),
     )
 
 pub down-none : (side : ℕ) (claim : ClaimOf ℕ) (lower upper : Node) → (leaf_label lower ≡ Some side → ⊥) → (leaf_label upper ≡ Some side → ⊥)
-    → (run_bits nat_eq side (InnerNode claim lower upper) ≡ []) × (run_end nat_eq side (InnerNode claim lower upper) ≡ InnerNode claim lower upper)
+    → (spine_bits nat_eq side (InnerNode claim lower upper) ≡ []) × (spine_end nat_eq side (InnerNode claim lower upper) ≡ InnerNode claim lower upper)
 down-none side claim lower upper low high =
     let first = no-leaf side lower low in
     let second = no-leaf side upper high in (
-      (λ i. cond (first i) (true ∷ run_bits nat_eq side upper) (cond (second i) (false ∷ run_bits nat_eq side lower) [])),
-      (λ i. cond (first i) (run_end nat_eq side upper) (cond (second i) (run_end nat_eq side lower) (InnerNode claim lower upper))),
+      (λ i. cond (first i) (true ∷ spine_bits nat_eq side upper) (cond (second i) (false ∷ spine_bits nat_eq side lower) [])),
+      (λ i. cond (first i) (spine_end nat_eq side upper) (cond (second i) (spine_end nat_eq side lower) (InnerNode claim lower upper))),
     )

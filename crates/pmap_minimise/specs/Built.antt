@@ -11,7 +11,7 @@ use Rattle.pmap_cert.specs.Compacting.{compacted}
 use Rattle.pmap_cert.specs.Node.{Node, node_lines, node_of}
 use Rattle.pmap_minimise.specs.Numbers.{IsExact, IsMapNode, IsSound}
 use Rattle.pmap_cert.specs.Opened.{Opens}
-use Rattle.pmap_minimise.specs.Runs.{IsWindowNode}
+use Rattle.pmap_minimise.specs.Spines.{IsWindowNode}
 
 -- The lines of nodes as they are built, in reverse order: the line of a node follows those of the nodes below it, and
 -- the higher half of a node comes before the lower one.

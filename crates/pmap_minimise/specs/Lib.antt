@@ -1,4 +1,4 @@
 pub mod Numbers
 pub mod Listing
-pub mod Runs
+pub mod Spines
 pub mod Built

@@ -10,10 +10,10 @@ ghost use Rattle.pmap_stretches.specs.Windows.{IsWindow, window_number};
 ghost use Rattle.pmap_minimise.specs.Built.{AddsExact, AddsInner, AreHalves, IsBuilt, IsBuiltIn, last_claim};
 ghost use Rattle.pmap_minimise.specs.Numbers.{has_number, numbers_of};
 ghost use Rattle.pmap_cert.specs.Opened.{cost_above};
-ghost use Rattle.pmap_minimise.specs.Runs.{AreCountable, HasNoLongRun, IsCounted, IsMapOn, own_label};
+ghost use Rattle.pmap_minimise.specs.Spines.{AreCountable, HasNoLongSpine, IsCounted, IsMapOn, own_label};
 
-use crate::runs::{own_label, run_end};
 use crate::sets::exact_claim;
+use crate::spines::{own_label, spine_end};
 use pmap_cert::{Claim, Node, Nodes, Path, Root, has_label};
 use pmap_model::LabelId;
 use pmap_stretches::{Stretches, Window};
@@ -126,7 +126,7 @@ fn push_divided(
 {
     let (low, high) = window.halves(stretches);
     if let Some(side) = side_of(stretches, &low, &high) {
-        let end = run_end(stretches, window, side);
+        let end = spine_end(stretches, window, side);
         let count = end.len - window.len;
         if count >= 2 {
             push_window(alloc, nodes, stretches, &end)?;
@@ -149,13 +149,13 @@ fn number_of(stretches: &Stretches, window: &Window) -> u128
     window.first >> (stretches.version().width() - window.len)
 }
 
-// Returns the side label of the run from the block with these halves: the first label that a half has alone. Returns
-// `None` if no half has one, or if both do, so that the run has at most one step.
+// Returns the side label of the spine from the block with these halves: the first label that a half has alone. Returns
+// `None` if no half has one, or if both do, so that the spine has at most one step.
 #[inline(always)]
 fn side_of(stretches: &Stretches, low: &Window, high: &Window) -> Option<LabelId>
     requires low { IsWindow stretches.now low.now }
     requires high { IsWindow stretches.now high.now }
-    ensures { MatchOption result (HasNoLongRun stretches.now low.now high.now)
+    ensures { MatchOption result (HasNoLongSpine stretches.now low.now high.now)
         (λ id. option_or (own_label stretches.now low.now) (own_label stretches.now high.now) ≡ Some id.0) }
 {
     if low.from == low.to && high.from == high.to {

@@ -25,7 +25,7 @@ mod claiming;
 mod entering;
 mod entries;
 mod minimal;
-mod runs;
 mod sets;
+mod spines;
 
 pub use minimal::{Minimal, compact_certificate, minimise, shortest};

@@ -4,10 +4,10 @@ use Rattle.std.proofs.lemmas.Result.{on_ok_weaker}
 use Rattle.pmap_model.specs.declared.label.LabelId.{LabelId}
 use Rattle.pmap_stretches.proofs.Windows.{window_some}
 use Rattle.prefix_keys.proofs.Groups.{width-le}
-use Rattle.pmap_minimise.specs.Runs.{own_label}
+use Rattle.pmap_minimise.specs.Spines.{own_label}
 use Rattle.pmap_minimise.specs.Built.{AddsInner, AreHalves}
 use Rattle.pmap_minimise.proofs.MadeNodes.{both-cost, counted-halves, own-is}
-use Rattle.pmap_minimise.proofs.BuiltNodes.{IsShortRun, are-halves, before-claim, built-claim, chain-built, end-smaller, halves-built, leaf-built, short-halves}
+use Rattle.pmap_minimise.proofs.BuiltNodes.{IsShortSpine, are-halves, before-claim, built-claim, chain-built, end-smaller, halves-built, leaf-built, short-halves}
 use Rattle.pmap_minimise.proofs.building.+window.Goals as goal
 use Rattle.pmap_minimise.proofs.building.+window.Goals.{push_divided-in-Some+else-count-ge2, push_divided-in_default}
 
@@ -29,12 +29,12 @@ push_divided-halves-requires-clause-some t c =
 pub push_divided-push_window-requires : goal.push_divided-push_window-requires
 push_divided-push_window-requires t c =
     let s = c.args.stretches.now in
-    let run = c.run_end-end.ensures in
-    let len = run.len in
+    let spine = c.spine_end-end.ensures in
+    let len = spine.len in
     let long = c.if-count-ge2.true in
-    let smaller = end-smaller s c.args.window.now c.run_end-end.result c.in-Some.side.0 c.requires.counted run (omega arith) in
+    let smaller = end-smaller s c.args.window.now c.spine_end-end.result c.in-Some.side.0 c.requires.counted spine (omega arith) in
     let less = c.decreases in
-    (omega arith, run.counted)
+    (omega arith, spine.counted)
 
 pub push_divided-push_window-requires-2 : goal.push_divided-push_window-requires-2
 push_divided-push_window-requires-2 t c =
@@ -56,34 +56,34 @@ push_divided-push_window-requires-3 t c =
 
 pub push_divided-invariant_of-push_chain : goal.push_divided-invariant_of-push_chain
 push_divided-invariant_of-push_chain t c =
-    let run = c.run_end-end.ensures in
-    let len = run.len in
-    let inside = run.counted.window.within in
+    let spine = c.spine_end-end.ensures in
+    let len = spine.len in
+    let inside = spine.counted.window.within in
     omega (arith, width-le c.args.stretches.now.version)
 
 pub push_divided-push_chain-requires-clause-some : goal.push_divided-push_chain-requires-clause-some
 push_divided-push_chain-requires-clause-some t c =
-    let inside = (built-claim c.args.stretches.now c.run_end-end.result c.args.nodes.now c.push_window.new.nodes c.in_ok-push_window.ensures).inside in
+    let inside = (built-claim c.args.stretches.now c.spine_end-end.result c.args.nodes.now c.push_window.new.nodes c.in_ok-push_window.ensures).inside in
     omega arith
 
 pub push_divided-push_chain-requires-clause-few : goal.push_divided-push_chain-requires-clause-few
 push_divided-push_chain-requires-clause-few t c =
     let built = c.in_ok-push_window.ensures in
-    let is = c.run_end-end.ensures.counted in
+    let is = c.spine_end-end.ensures.counted in
     let cost = built.made.few is.few.statements is.few.default is.few.stretches in
     let few = is.few.few in
-    rw ((built-claim c.args.stretches.now c.run_end-end.result c.args.nodes.now c.push_window.new.nodes built).claim) (omega arith)
+    rw ((built-claim c.args.stretches.now c.spine_end-end.result c.args.nodes.now c.push_window.new.nodes built).claim) (omega arith)
 
 pub push_divided-returns-then-count-ge2 : goal.push_divided-returns-then-count-ge2
 push_divided-returns-then-count-ge2 t c =
     let s = c.args.stretches.now in
-    let run = c.run_end-end.ensures in
-    let len = run.len in
+    let spine = c.spine_end-end.ensures in
+    let len = spine.len in
     let long = c.if-count-ge2.true in
     on_ok_weaker c.push_chain.result
-    (chain-built s c.args.window.now c.halves.result.0 c.halves.result.1 c.run_end-end.result c.args.nodes.now c.push_window.new.nodes c.push_chain.new.nodes
-    c.in-Some.side.0 c.number_of-value.result (c.run_end-end.result.len - c.args.window.now.len) c.requires.counted (counted-halves s c.args.window.now c.requires.counted c.requires.divided _ _ c.halves.ensures)
-    c.in-Some.ensures (omega arith) run (omega arith) refl c.number_of-value.ensures c.in_ok-push_window.ensures) c.push_chain.ensures
+    (chain-built s c.args.window.now c.halves.result.0 c.halves.result.1 c.spine_end-end.result c.args.nodes.now c.push_window.new.nodes c.push_chain.new.nodes
+    c.in-Some.side.0 c.number_of-value.result (c.spine_end-end.result.len - c.args.window.now.len) c.requires.counted (counted-halves s c.args.window.now c.requires.counted c.requires.divided _ _ c.halves.ensures)
+    c.in-Some.ensures (omega arith) spine (omega arith) refl c.number_of-value.ensures c.in_ok-push_window.ensures) c.push_chain.ensures
 
 pub push_divided-overflow_sub-upper : goal.push_divided-overflow_sub-upper
 push_divided-overflow_sub-upper t c =
@@ -115,13 +115,13 @@ push_divided-returns t c =
     let low = c.halves.result.0 in
     let high = c.halves.result.1 in
     let halves = counted-halves s c.args.window.now c.requires.counted c.requires.divided low high c.halves.ensures in
-    let short : IsShortRun s c.args.window.now (option_or (own_label s low) (own_label s high)) =
+    let short : IsShortSpine s c.args.window.now (option_or (own_label s low) (own_label s high)) =
     elim c.match-side_of.branch [
       | push_divided-in-Some+else-count-ge2 w ↦
-          let len = w.run_end-end.ensures.len in
+          let len = w.spine_end-end.ensures.len in
           let few = w.if-count-ge2.false in
-          let run : IsShortRun s c.args.window.now (Some w.in-Some.side.0) = (w.run_end-end.result, w.run_end-end.ensures, omega arith) in
-          subst (IsShortRun s c.args.window.now) (sym w.in-Some.ensures) run
+          let spine : IsShortSpine s c.args.window.now (Some w.in-Some.side.0) = (w.spine_end-end.result, w.spine_end-end.ensures, omega arith) in
+          subst (IsShortSpine s c.args.window.now) (sym w.in-Some.ensures) spine
       | push_divided-in_default w ↦ short-halves s c.args.window.now low high halves w.in_default.ensures
     ] in
     on_ok_weaker c.push_inner.result

@@ -3,9 +3,9 @@ use Rattle.pmap_stretches.specs.Stretches.{StretchesModel}
 use Rattle.pmap_stretches.specs.Windows.{AreHalvesOf}
 use Rattle.pmap_stretches.specs.declared.stretches.window.Window.{Window}
 use Rattle.pmap_stretches.proofs.Windows.{window_some}
-use Rattle.pmap_minimise.specs.Runs.{AreCountedHalves, IsCounted}
+use Rattle.pmap_minimise.specs.Spines.{AreCountedHalves, IsCounted}
 use Rattle.pmap_minimise.proofs.MadeNodes.{counted-halves}
-use Rattle.pmap_minimise.proofs.runs.step.Goals as goal
+use Rattle.pmap_minimise.proofs.spines.step.Goals as goal
 
 counted : (s : StretchesModel) (w low high : Window) → IsCounted s w → (w.from ≡ w.to → ⊥) → AreHalvesOf s w low high → AreCountedHalves s w low high
 counted s w low high is other = let order = is.window.ordered in counted-halves s w is (omega arith) low high

@@ -57,15 +57,15 @@ pub record AreCountedHalves (s : StretchesModel) (a low high : Window) : Type 0 
 abbrev pub own_label : StretchesModel → Window → Option ℕ
 own_label s a = if a.from == a.to then option_map (λ id. id.0) (label_at s a.from) else None
 
--- no half of a block has a label alone, or both have, so that a run from the block has at most one step
-abbrev pub HasNoLongRun : StretchesModel → Window → Window → Type 0
-HasNoLongRun s low high = (option_or (own_label s low) (own_label s high) ≡ None)
+-- no half of a block has a label alone, or both have, so that a spine from the block has at most one step
+abbrev pub HasNoLongSpine : StretchesModel → Window → Window → Type 0
+HasNoLongSpine s low high = (option_or (own_label s low) (own_label s high) ≡ None)
     ⊎ ((low.from ≡ low.to) × (high.from ≡ high.to))
 
 abbrev pub HasLabel : StretchesModel → ℕ → ℕ → Type 0
 HasLabel s label i = option_map (λ id. id.0) (label_at s i) ≡ Some label
 
--- The step of a run: to the higher half if the lower one has the side label alone, otherwise to the lower one if the
+-- The step of a spine: to the higher half if the lower one has the side label alone, otherwise to the lower one if the
 -- higher one has it alone.
 abbrev pub IsChoice : StretchesModel → ℕ → Window → Window → Window → Type 0
 IsChoice s side low high chosen =
@@ -78,7 +78,7 @@ pub record IsStepInto (s : StretchesModel) (side : ℕ) (a chosen : Window) : Ty
   pub halves : AreCountedHalves s a low high
   pub choice : IsChoice s side low high chosen
 
--- a run of `count` steps leads from the block to the end
+-- a spine of `count` steps leads from the block to the end
 abbrev pub AreSteps : StretchesModel → ℕ → ℕ → Window → Window → Type 0
 AreSteps s side zero a end = end ≡ a
 AreSteps s side (suc count) a end = (chosen : Window) × IsStepInto s side a chosen × AreSteps s side count chosen end
@@ -93,10 +93,10 @@ pub record HasNoSide (s : StretchesModel) (side : ℕ) (a : Window) : Type 0 whe
 abbrev pub IsStop : StretchesModel → ℕ → Window → Type 0
 IsStop s side a = (a.from ≡ a.to) ⊎ HasNoSide s side a
 
--- the whole run of the side label leads from the block to the end
-pub record IsRunTo (s : StretchesModel) (side : ℕ) (a end : Window) : Type 0 where
+-- the whole spine of the side label leads from the block to the end
+pub record IsSpineTo (s : StretchesModel) (side : ℕ) (a end : Window) : Type 0 where
   pub count : ℕ
-  pub run : AreSteps s side count a end
+  pub steps : AreSteps s side count a end
   pub stop : IsStop s side end
   pub counted : IsCounted s end
   pub len : end.len ≡ a.len + count

@@ -1,4 +1,4 @@
--- A run leads to the smallest block with the addresses that aren't in an outer stretch with the side label.
+-- A spine leads to the smallest block with the addresses that aren't in an outer stretch with the side label.
 use Rattle.std.proofs.Common.{◌≡◌, ℕ, zero, suc, ◌+◌, ◌-◌, ◌*◌, ◌/◌, ◌^◌, ◌<◌, ◌≤◌, inl, inr, ◌∙◌, Bool, true, false, Some, max, min, refl, sym, ap, subst, arith, pow_pos}
 use Rattle.std.specs.Prelude.{◌⊎◌, bit_xor}
 use Rattle.std.specs.Int.{from_bool}
@@ -17,9 +17,9 @@ use Rattle.pmap_stretches.proofs.Ranges.{ends_before, held_order, next_first, or
 use Rattle.pmap_stretches.specs.Windows.{IsBlock, window_number}
 use Rattle.pmap_stretches.specs.declared.stretches.window.Window.{Window}
 use Rattle.pmap_stretches.proofs.Windows.{are_halves, divided_window, first_number, one_index}
-use Rattle.pmap_minimise.specs.Runs.{AreCountedHalves, HasLabel, IsCounted, AreSteps, IsRunTo, IsStop, own_label}
+use Rattle.pmap_minimise.specs.Spines.{AreCountedHalves, HasLabel, IsCounted, AreSteps, IsSpineTo, IsStop, own_label}
 use Rattle.prefix_keys.proofs.Groups.{width-le}
-use Rattle.pmap_minimise.proofs.MadeNodes.{block-order, counted-halves, own-is, own-single, run-below, same-window}
+use Rattle.pmap_minimise.proofs.MadeNodes.{block-order, counted-halves, own-is, own-single, same-window, spine-below}
 
 -- How many first bits two numbers share, by their exclusive or.
 
@@ -159,9 +159,9 @@ module _ (s : StretchesModel) (side : ℕ) (a : Window) (is : IsCounted s a) (x 
               ]
         ]
 
-    -- the run leads from each block around b to b
-    run-to : (count : ℕ) (c : Window) → IsCounted s c → a.first ≤ c.first → c.last ≤ a.last → c.first ≤ x → y ≤ c.last → b.len ≡ c.len + count → AreSteps s side count c b
-    run-to zero c is_c first last from to len =
+    -- the spine leads from each block around b to b
+    spine-to : (count : ℕ) (c : Window) → IsCounted s c → a.first ≤ c.first → c.last ≤ a.last → c.first ≤ x → y ≤ c.last → b.len ≡ c.len + count → AreSteps s side count c b
+    spine-to zero c is_c first last from to len =
         let same : b.len ≡ c.len = omega arith in
         let ordered = inside.ordered in
         let low = around.from in
@@ -174,7 +174,7 @@ module _ (s : StretchesModel) (side : ℕ) (a : Window) (is : IsCounted s a) (x 
         same-window b c first_is last_is same
         (one_index s every c.first b.from c.from (subst (λ (p : ℕ). HoldsAddress s p b.from) first_is around.start) is_c.window.start)
         (one_index s every c.last b.to c.to (subst (λ (p : ℕ). HoldsAddress s p b.to) last_is around.end) is_c.window.end)
-    run-to (suc count) c is_c first last from to len = by (run-to count) (in-half c count is_c from to len)
+    spine-to (suc count) c is_c first last from to len = by (spine-to count) (in-half c count is_c from to len)
       where
         ends : c.first < c.last
         ends =
@@ -249,7 +249,7 @@ module _ (s : StretchesModel) (side : ℕ) (a : Window) (is : IsCounted s a) (x 
               go halves.high counted.high_counted (omega arith) (omega arith) (omega arith) (omega arith) (omega arith),
             )
 
-    -- if no smaller block than b has both addresses, the run ends at b
+    -- if no smaller block than b has both addresses, the spine ends at b
     module _ (apart : (h : ℕ) → suc h ≡ W - b.len → x / 2 ^ h ≡ y / 2 ^ h → ⊥) where
       stops : IsCounted s b → IsStop s side b
       stops is_b =
@@ -294,12 +294,12 @@ module _ (s : StretchesModel) (side : ℕ) (a : Window) (is : IsCounted s a) (x 
                 })
           ]
 
-      -- the run of the block a ends at b
-      pub run-end : a.len ≤ b.len → IsRunTo s side a b
-      run-end deep =
-          let run = run-to (b.len - a.len) a is (omega arith) (omega arith) inside.from inside.to (omega arith) in
-          let below = run-below s side (b.len - a.len) a b is run in
-          record { count = b.len - a.len; run = run; stop = stops below.counted; counted = below.counted; len = below.len }
+      -- the spine of the block a ends at b
+      pub spine-end : a.len ≤ b.len → IsSpineTo s side a b
+      spine-end deep =
+          let steps = spine-to (b.len - a.len) a is (omega arith) (omega arith) inside.from inside.to (omega arith) in
+          let below = spine-below s side (b.len - a.len) a b is steps in
+          record { count = b.len - a.len; steps = steps; stop = stops below.counted; counted = below.counted; len = below.len }
 
 -- of two blocks with a common address the smaller one is in the larger one
 nested : (x host more : ℕ) → (x / 2 ^ (host + more) * 2 ^ (host + more) ≤ x / 2 ^ host * 2 ^ host) × ((x / 2 ^ host + 1) * 2 ^ host ≤ (x / 2 ^ (host + more) + 1) * 2 ^ (host + more))
@@ -329,7 +329,7 @@ module _ (s : StretchesModel) (side : ℕ) (a : Window) (is : IsCounted s a) (x 
       in-block width a.first a.last a.len _ x is.window.block from (omega arith) ∙ sym (in-block width a.first a.last a.len _ y is.window.block (omega arith) to)
 
   pub direct-end : IsShared x y (width - a.len) host → (b : Window) → b.len ≡ width - host → b.first ≡ first_of width b.len (block_number width b.len x)
-      → b.last ≡ last_of width b.len (block_number width b.len x) → IsEndIn b.first x b.from i a.from → IsEndIn b.last y b.to j a.to → IsRunTo s side a b
+      → b.last ≡ last_of width b.len (block_number width b.len x) → IsEndIn b.first x b.from i a.from → IsEndIn b.last y b.to j a.to → IsSpineTo s side a b
   direct-end shared b len first last start end =
       let few = shared.few in
       let within = is.window.within in
@@ -347,7 +347,7 @@ module _ (s : StretchesModel) (side : ℕ) (a : Window) (is : IsCounted s a) (x 
       ap (λ (n : ℕ). x / 2 ^ n) (sym all) ∙ in-block width a.first a.last a.len _ x is.window.block inside.from (let up = inside.to in let ordered = inside.ordered in omega arith) in
       let begun : a.first ≤ b.first = let e = is.window.block.first_is ∙ (λ k. sym outer k * 2 ^ all k) in omega (arith, nest.0) in
       let ended : b.last ≤ a.last = let e = is.window.block.last_is ∙ (λ k. (sym outer k + 1) * 2 ^ all k - 1) in omega (arith, nest.1) in
-      run-end s side a is x y i j inside b (record {
+      spine-end s side a is x y i j inside b (record {
         within = omega arith;
         block = record { first_is = first ∙ ap (λ (q : ℕ). q * 2 ^ (width - b.len)) (sym number); last_is = last ∙ ap (λ (q : ℕ). (q + 1) * 2 ^ (width - b.len) - 1) (sym number) };
         from = omega arith;

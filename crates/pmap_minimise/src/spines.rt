@@ -1,8 +1,7 @@
-//! The runs of a certificate's tree: steps down to the half whose sibling has the side label alone. The `Runs` of
-//! pmap_stretches are others, ranges of addresses.
+//! The spines of a certificate's tree: steps down to the half whose sibling has the side label alone.
 ghost use Rattle.std.specs.Prelude.{◌≡◌, ◌+◌, ◌^◌, ◌<◌, ◌↔◌, IsTrue, MatchOption, Some, length, option_map};
 ghost use Rattle.pmap_stretches.specs.Windows.{IsWindow};
-ghost use Rattle.pmap_minimise.specs.Runs.{HasLabel, IsCounted, IsRunTo, IsStepInto, IsStop, own_label};
+ghost use Rattle.pmap_minimise.specs.Spines.{HasLabel, IsCounted, IsSpineTo, IsStepInto, IsStop, own_label};
 
 use pmap_model::LabelId;
 use pmap_stretches::{Stretches, Window};
@@ -38,7 +37,7 @@ fn has_side(stretches: &Stretches, window: &Window, side: LabelId) -> bool
     window.from == window.to && is_side(stretches, window.from, side)
 }
 
-// Returns the half that is the next step of the run of the side label, or `None` if the run ends at the block.
+// Returns the half that is the next step of the spine of the side label, or `None` if the spine ends at the block.
 #[inline(always)]
 fn step(stretches: &Stretches, window: &Window, side: LabelId) -> Option<Window>
     requires { IsCounted stretches.now window.now }
@@ -57,11 +56,11 @@ fn step(stretches: &Stretches, window: &Window, side: LabelId) -> Option<Window>
     }
 }
 
-// Returns the block at the end of the run of the side label, found bit by bit.
+// Returns the block at the end of the spine of the side label, found bit by bit.
 #[inline(never)]
 fn stepwise_end(stretches: &Stretches, window: &Window, side: LabelId) -> Window
     requires { IsCounted stretches.now window.now }
-    ensures { IsRunTo stretches.now side.0 window.now result }
+    ensures { IsSpineTo stretches.now side.0 window.now result }
 {
     let mut end = *window;
     while let Some(chosen) = step(stretches, &end, side) {
@@ -70,15 +69,15 @@ fn stepwise_end(stretches: &Stretches, window: &Window, side: LabelId) -> Window
     end
 }
 
-/// The block at the end of the run of the side label from a block with addresses of two stretches or more. It is found
-/// in one step: the smallest block with all addresses that are not in the first or last stretch of this block if that
-/// stretch has the side label. If the addresses inside begin or end with one more stretch that has it, the end is found
-/// bit by bit.
+/// The block at the end of the spine of the side label from a block with addresses of two stretches or more. It is
+/// found in one step: the smallest block with all addresses that are not in the first or last stretch of this block if
+/// that stretch has the side label. If the addresses inside begin or end with one more stretch that has it, the end is
+/// found bit by bit.
 #[inline(always)]
-pub fn run_end(stretches: &Stretches, window: &Window, side: LabelId) -> Window
+pub fn spine_end(stretches: &Stretches, window: &Window, side: LabelId) -> Window
     requires counted { IsCounted stretches.now window.now }
     requires divided { window.now.from < window.now.to }
-    ensures { IsRunTo stretches.now side.0 window.now result }
+    ensures { IsSpineTo stretches.now side.0 window.now result }
 {
     let from = window.from + usize::from(is_side(stretches, window.from, side));
     let to = window.to - usize::from(is_side(stretches, window.to, side));

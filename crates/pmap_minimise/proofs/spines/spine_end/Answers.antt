@@ -3,9 +3,9 @@ use Rattle.std.specs.Prelude.{bit_xor}
 use Rattle.std.specs.Int.Count.{count_leading_zeros}
 use Rattle.prefix_keys.specs.Block.{block_number, first_of, width_of}
 use Rattle.prefix_keys.specs.declared.version.Version.{Version}
-use Rattle.pmap_minimise.proofs.RunEnds.{block-last, direct-end, trimmed}
-use Rattle.pmap_minimise.proofs.runs.run_end.Goals as goal
-use Rattle.pmap_minimise.proofs.runs.run_end.Goals.{then-first-low, else-first-low}
+use Rattle.pmap_minimise.proofs.SpineEnds.{block-last, direct-end, trimmed}
+use Rattle.pmap_minimise.proofs.spines.spine_end.Goals as goal
+use Rattle.pmap_minimise.proofs.spines.spine_end.Goals.{then-first-low, else-first-low}
 
 pub invariant_of-block_of : goal.invariant_of-block_of
 invariant_of-block_of c =

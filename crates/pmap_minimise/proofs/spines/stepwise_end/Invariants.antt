@@ -1,12 +1,12 @@
 use Rattle.std.proofs.Common.{◌-◌}
 use Rattle.pmap_stretches.specs.declared.stretches.window.Window.{Window}
-use Rattle.pmap_minimise.specs.Runs.{IsCounted, IsRunTo}
-use Rattle.pmap_minimise.proofs.runs.stepwise_end.Given as goal
+use Rattle.pmap_minimise.specs.Spines.{IsCounted, IsSpineTo}
+use Rattle.pmap_minimise.proofs.spines.stepwise_end.Given as goal
 
 abbrev pub invariant-loop-chosen : goal.invariant-loop-chosen
 invariant-loop-chosen l = record {
   counted : IsCounted l.fn.stretches l.end;
-  all : (last : Window) → IsRunTo l.fn.stretches l.fn.side.0 l.end last → IsRunTo l.fn.stretches l.fn.side.0 l.fn.window last;
+  all : (last : Window) → IsSpineTo l.fn.stretches l.fn.side.0 l.end last → IsSpineTo l.fn.stretches l.fn.side.0 l.fn.window last;
 }
 
 -- each step leads to a block of fewer addresses
