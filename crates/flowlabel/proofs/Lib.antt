@@ -1,7 +1,7 @@
 pub mod AnswerLemmas
 pub mod CoveringLabels
 pub mod LineLemmas
-pub mod MadeLemmas
+pub mod PrintoutLemmas
 pub mod Outcomes
 pub mod RowLemmas
 pub mod RunLemmas

@@ -9,7 +9,7 @@ use Rattle.pmap_print.specs.Table.{Line}
 use Rattle.label_lookup.specs.Labelling.{Labelling}
 use Rattle.flow_files.specs.Groups.{row_columns}
 use Rattle.flowlabel.specs.Output.{labelled_row_lines}
-use Rattle.flowlabel.specs.Reports.{row_labels}
+use Rattle.flowlabel.specs.Printouts.{row_labels}
 
 -- the fields of a row
 abbrev pub line_of_row : Option Labelling → RowView → Line

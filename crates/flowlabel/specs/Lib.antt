@@ -4,6 +4,6 @@ pub mod Answer
 pub mod Output
 pub mod Headline
 pub mod Run
-pub mod Reports
+pub mod Printouts
 pub mod Ending
 pub mod Joined

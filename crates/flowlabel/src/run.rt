@@ -1,7 +1,7 @@
 ghost use Rattle.std.specs.Prelude.{◌≡◌, false};
 ghost use Rattle.flowlabel.specs.Output.{IsOutput};
 ghost use Rattle.flow_files.specs.Reports.{AreFresh, IsTextWritten};
-ghost use Rattle.flowlabel.specs.Reports.{IsMade, IsTextOf, IsWhole};
+ghost use Rattle.flowlabel.specs.Printouts.{IsPrintout, IsTextOf, IsWhole};
 ghost use Rattle.flow_files.specs.Readers.{AreUnread, any_failed};
 ghost use Rattle.flowlabel.specs.Run.{IsRunOf};
 
@@ -20,7 +20,7 @@ mod info;
 mod joined;
 mod label;
 mod laws;
-mod made;
+mod printout;
 mod rows;
 mod shrink;
 mod uniq;
@@ -30,7 +30,7 @@ pub use laws::{
     one_output, output_is_same_under_equivalent_labels, output_keeps_headline,
     shrunk_list_is_least, shrunk_list_keeps_reports,
 };
-use made::Made;
+use printout::Printout;
 use uniq::Grouping;
 
 // Returns what a command prints. Its files are read here: the map, the list, the certificate, the flows.
@@ -39,9 +39,9 @@ fn output<'a, R: Input>(
     command: &Command<'_>,
     files: &mut Files<'a, R>,
     hashing: KeyHashing,
-) -> Result<Made, RunFault<'a>>
+) -> Result<Printout, RunFault<'a>>
     requires { AreFresh R.input files.old }
-    ensures { IsMade R.input (IsOutput command.now) files.old files.new result }
+    ensures { IsPrintout R.input (IsOutput command.now) files.old files.new result }
 {
     match command {
         Command::Label { labels, addr } => label::output(alloc, *labels, files, *addr, hashing),
@@ -73,26 +73,30 @@ fn output<'a, R: Input>(
         Command::Check { .. } => check::output(alloc, files, hashing),
         Command::Recert { .. } => {
             let certificate = read_certificate(alloc, &mut files.certificate, hashing)?;
-            Ok(Made::Compact(certificate))
+            Ok(Printout::Compact(certificate))
         }
     }
 }
 
-// Writes what a command made. What its printing needs is allocated before the writer is called.
-fn write_made<'a, W: Output>(alloc: Global, made: Made, writer: &mut W) -> Result<(), RunFault<'a>>
+// Writes a printout. What its printing needs is allocated before the writer is called.
+fn write_printout<'a, W: Output>(
+    alloc: Global,
+    printout: Printout,
+    writer: &mut W,
+) -> Result<(), RunFault<'a>>
     requires writer { (W.output writer.old).failed ≡ false }
-    requires whole { IsWhole made }
-    ensures { IsTextWritten W.output (IsTextOf made) writer.old writer.new result }
+    requires whole { IsWhole printout }
+    ensures { IsTextWritten W.output (IsTextOf printout) writer.old writer.new result }
 {
-    match made {
-        Made::Text(text) => print_to(writer, &text.as_slice()),
-        Made::Table(table) => print_to(writer, &table),
-        Made::Groups {
+    match printout {
+        Printout::Text(text) => print_to(writer, &text.as_slice()),
+        Printout::Table(table) => print_to(writer, &table),
+        Printout::Groups {
             groups,
             sorted,
             columns,
         } => print_to(writer, &GroupsText::new(alloc, &groups, sorted, columns)?),
-        Made::Runs { runs, labels } => {
+        Printout::Runs { runs, labels } => {
             let labels = labels.table();
             print_to(
                 writer,
@@ -102,10 +106,10 @@ fn write_made<'a, W: Output>(alloc: Global, made: Made, writer: &mut W) -> Resul
                 },
             )
         }
-        Made::List(list) => print_to(writer, &ListText::new(alloc, &list)?),
-        Made::Certificate(certificate) => print_to(writer, &certificate),
-        Made::Compact(certificate) => print_to(writer, &CompactText::new(alloc, &certificate)?),
-        Made::Opened(compact) => print_to(writer, &OpenedText { compact }),
+        Printout::List(list) => print_to(writer, &ListText::new(alloc, &list)?),
+        Printout::Certificate(certificate) => print_to(writer, &certificate),
+        Printout::Compact(certificate) => print_to(writer, &CompactText::new(alloc, &certificate)?),
+        Printout::Opened(compact) => print_to(writer, &OpenedText { compact }),
     }
 }
 
@@ -132,6 +136,6 @@ pub fn run<'a, R: Input, W: Output>(
 {
     // Provides the law that each output keeps the headline.
     output_keeps_headline();
-    let made = output(alloc, command, &mut inputs.files, inputs.hashing)?;
-    write_made(alloc, made, writer)
+    let printout = output(alloc, command, &mut inputs.files, inputs.hashing)?;
+    write_printout(alloc, printout, writer)
 }

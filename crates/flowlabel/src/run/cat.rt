@@ -2,10 +2,10 @@
 ghost use Rattle.std.specs.Prelude.{IfOk};
 ghost use Rattle.flowlabel.specs.Output.{IsOutput};
 ghost use Rattle.flow_files.specs.Reports.{AreFresh};
-ghost use Rattle.flowlabel.specs.Reports.{AreRunsFor, IsMade};
+ghost use Rattle.flowlabel.specs.Printouts.{AreRunsFor, IsPrintout};
 ghost use Rattle.flowlabel.specs.Request.{Cat};
 
-use crate::run::made::Made;
+use crate::run::printout::Printout;
 use flow_files::{Files, LabelFile, LabelsRead, RunFault};
 use flow_io::Input;
 use pmap_model::KeyHashing;
@@ -29,11 +29,11 @@ pub fn output<'a, R: Input>(
     source: LabelFile<'_>,
     files: &mut Files<'a, R>,
     hashing: KeyHashing,
-) -> Result<Made, RunFault<'a>>
+) -> Result<Printout, RunFault<'a>>
     requires { AreFresh R.input files.old }
-    ensures { IsMade R.input (IsOutput (Cat source.entry)) files.old files.new result }
+    ensures { IsPrintout R.input (IsOutput (Cat source.entry)) files.old files.new result }
 {
     let labels = LabelsRead::of_file(alloc, source, files, hashing)?;
     let runs = runs_of(alloc, &labels)?;
-    Ok(Made::Runs { runs, labels })
+    Ok(Printout::Runs { runs, labels })
 }

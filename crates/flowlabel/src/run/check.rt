@@ -4,11 +4,11 @@ ghost use Rattle.std.specs.Borrow.{Bor};
 ghost use Rattle.cert_check.specs.Inner.{ForInputs, HasKnownLabels};
 ghost use Rattle.flowlabel.specs.Output.{IsOutput, check_reading, minimal_text};
 ghost use Rattle.flow_files.specs.Reports.{AreFresh, IsFresh, IsRead};
-ghost use Rattle.flowlabel.specs.Reports.{IsMade};
+ghost use Rattle.flowlabel.specs.Printouts.{IsPrintout};
 ghost use Rattle.flowlabel.specs.Request.{Check};
 ghost use Rattle.flow_files.specs.Sources.{Text};
 
-use crate::run::made::Made;
+use crate::run::printout::Printout;
 use cert_check::{Swept, TextFault, check_text};
 use flow_files::{BytesFault, Files, RunFault, Source, read, read_list, read_map};
 use flow_io::Input;
@@ -46,15 +46,15 @@ pub fn output<'a, R: Input>(
     alloc: Global,
     files: &mut Files<'a, R>,
     hashing: KeyHashing,
-) -> Result<Made, RunFault<'a>>
+) -> Result<Printout, RunFault<'a>>
     requires { AreFresh R.input files.old }
     ensures { (map list certificate : Bor Text) →
-        IsMade R.input (IsOutput (Check map list certificate)) files.old files.new result }
+        IsPrintout R.input (IsOutput (Check map list certificate)) files.old files.new result }
 {
     let map = read_map(alloc, &mut files.map, hashing)?;
     let swept_map = Swept::of_map(alloc, map)?;
     let list = read_list(alloc, &mut files.list, hashing)?;
     let swept_list = Swept::of_list(alloc, list)?;
     let certificate = &mut files.certificate;
-    Ok(Made::Text(checked(alloc, &swept_map, &swept_list, certificate, hashing)?))
+    Ok(Printout::Text(checked(alloc, &swept_map, &swept_list, certificate, hashing)?))
 }

@@ -3,10 +3,10 @@ ghost use Rattle.std.specs.Prelude.{◌≡◌, ◌++◌, ◌∷◌, [], IfOk, op
 ghost use Rattle.label_lookup.specs.Labelling.{labelling};
 ghost use Rattle.flowlabel.specs.Output.{IsOutput, label_text};
 ghost use Rattle.flow_files.specs.Reports.{AreFresh, labelling_read};
-ghost use Rattle.flowlabel.specs.Reports.{IsMade};
+ghost use Rattle.flowlabel.specs.Printouts.{IsPrintout};
 ghost use Rattle.flowlabel.specs.Request.{Label};
 
-use crate::run::made::Made;
+use crate::run::printout::Printout;
 use flow_files::{Files, LabelFile, LabelsRead, RunFault};
 use flow_io::Input;
 use label_lookup::{Labeller, Scan};
@@ -53,10 +53,10 @@ pub fn output<'a, R: Input>(
     files: &mut Files<'a, R>,
     addr: Addr,
     hashing: KeyHashing,
-) -> Result<Made, RunFault<'a>>
+) -> Result<Printout, RunFault<'a>>
     requires { AreFresh R.input files.old }
-    ensures { IsMade R.input (IsOutput (Label labels.entry addr)) files.old files.new result }
+    ensures { IsPrintout R.input (IsOutput (Label labels.entry addr)) files.old files.new result }
 {
     let read = LabelsRead::of_file(alloc, labels, files, hashing)?;
-    Ok(Made::Text(line_of(alloc, &read, addr)?))
+    Ok(Printout::Text(line_of(alloc, &read, addr)?))
 }

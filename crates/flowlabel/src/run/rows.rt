@@ -4,11 +4,11 @@ ghost use Rattle.std.specs.Borrow.{Bor};
 ghost use Rattle.pmap_print.specs.Reports.{label_texts};
 ghost use Rattle.flowlabel.specs.Output.{IsOutput};
 ghost use Rattle.flow_files.specs.Reports.{AreFresh, labelling_found};
-ghost use Rattle.flowlabel.specs.Reports.{IsMade, row_labels};
+ghost use Rattle.flowlabel.specs.Printouts.{IsPrintout, row_labels};
 ghost use Rattle.flowlabel.specs.Request.{Rows};
 ghost use Rattle.flow_files.specs.Sources.{Text};
 
-use crate::run::made::Made;
+use crate::run::printout::Printout;
 use flow_files::{Files, LabelFile, RunFault, TakesRows, read_rows};
 use flow_filter::Filter;
 use flow_io::Input;
@@ -36,7 +36,7 @@ struct Lines {
 }
 
 impl TakesRows for Lines {
-    ghost use Rattle.flowlabel.specs.Reports.{HasRows};
+    ghost use Rattle.flowlabel.specs.Printouts.{HasRows};
 
     ghost has_rows = { HasRows };
 
@@ -59,14 +59,14 @@ pub fn output<'a, R: Input>(
     filter: &Filter<'_>,
     columns: bool,
     hashing: KeyHashing,
-) -> Result<Made, RunFault<'a>>
+) -> Result<Printout, RunFault<'a>>
     requires { AreFresh R.input files.old }
     ensures { (flows : Bor Text) →
-        IsMade R.input (IsOutput (Rows labels.entry filter.now columns flows)) files.old files.new result }
+        IsPrintout R.input (IsOutput (Rows labels.entry filter.now columns flows)) files.old files.new result }
 {
     let lines = Lines {
         table: Table::of_rows(alloc, labels.is_some(), columns)?,
     };
     let lines = read_rows(alloc, labels, files, filter, hashing, lines)?;
-    Ok(Made::Table(lines.table))
+    Ok(Printout::Table(lines.table))
 }

@@ -4,25 +4,25 @@ ghost use Rattle.std.specs.Borrow.{Bor};
 ghost use Rattle.pmap_model.specs.MapText.{map_of};
 ghost use Rattle.flowlabel.specs.Output.{IsOutput};
 ghost use Rattle.flow_files.specs.Reports.{AreFresh};
-ghost use Rattle.flowlabel.specs.Reports.{IsMade, IsShrunk};
+ghost use Rattle.flowlabel.specs.Printouts.{IsPrintout, IsShrunk};
 ghost use Rattle.flowlabel.specs.Request.{Shrink};
 ghost use Rattle.flow_files.specs.Sources.{Text};
 
 use crate::command::Shrunk;
-use crate::run::made::Made;
+use crate::run::printout::Printout;
 use flow_files::{Files, RunFault, read_map};
 use flow_io::Input;
 use pmap_minimise::{compact_certificate, shortest};
 use pmap_model::{KeyHashing, MapText};
 use std::alloc::{AllocError, Global};
 
-fn made_of(alloc: Global, map: MapText, printed: Shrunk) -> Result<Made, AllocError>
+fn printout_of(alloc: Global, map: MapText, printed: Shrunk) -> Result<Printout, AllocError>
     ensures { IfOk result (IsShrunk printed (map_of map)) }
 {
     match printed {
-        Shrunk::List => Ok(Made::List(shortest(alloc, map)?)),
-        Shrunk::Certificate => Ok(Made::Opened(compact_certificate(alloc, map)?)),
-        Shrunk::Compact => Ok(Made::Certificate(compact_certificate(alloc, map)?)),
+        Shrunk::List => Ok(Printout::List(shortest(alloc, map)?)),
+        Shrunk::Certificate => Ok(Printout::Opened(compact_certificate(alloc, map)?)),
+        Shrunk::Compact => Ok(Printout::Certificate(compact_certificate(alloc, map)?)),
     }
 }
 
@@ -32,10 +32,10 @@ pub fn output<'a, R: Input>(
     files: &mut Files<'a, R>,
     printed: Shrunk,
     hashing: KeyHashing,
-) -> Result<Made, RunFault<'a>>
+) -> Result<Printout, RunFault<'a>>
     requires { AreFresh R.input files.old }
-    ensures { (map : Bor Text) → IsMade R.input (IsOutput (Shrink map printed)) files.old files.new result }
+    ensures { (map : Bor Text) → IsPrintout R.input (IsOutput (Shrink map printed)) files.old files.new result }
 {
     let map = read_map(alloc, &mut files.map, hashing)?;
-    Ok(made_of(alloc, map, printed)?)
+    Ok(printout_of(alloc, map, printed)?)
 }

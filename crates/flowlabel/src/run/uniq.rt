@@ -2,11 +2,11 @@
 ghost use Rattle.std.specs.Borrow.{Bor};
 ghost use Rattle.flowlabel.specs.Output.{IsOutput};
 ghost use Rattle.flow_files.specs.Reports.{AreFresh};
-ghost use Rattle.flowlabel.specs.Reports.{IsMade};
+ghost use Rattle.flowlabel.specs.Printouts.{IsPrintout};
 ghost use Rattle.flow_files.specs.Sources.{Text};
 ghost use Rattle.flowlabel.specs.Request.{Uniq};
 
-use crate::run::made::Made;
+use crate::run::printout::Printout;
 use flow_files::{Files, LabelFile, RunFault, read_rows};
 use flow_filter::Filter;
 use flow_io::Input;
@@ -34,17 +34,17 @@ pub fn output<'a, R: Input>(
     files: &mut Files<'a, R>,
     grouping: Grouping<'_>,
     hashing: KeyHashing,
-) -> Result<Made, RunFault<'a>>
+) -> Result<Printout, RunFault<'a>>
     requires { AreFresh R.input files.old }
     ensures { (flows : Bor Text) →
-        IsMade R.input
+        IsPrintout R.input
         (IsOutput (Uniq grouping.entry.keys.now labels.entry grouping.entry.filter.now grouping.entry.sorted
         grouping.entry.columns flows))
         files.old files.new result }
 {
     let groups = Groups::with_hashing(alloc, grouping.keys, hashing)?;
     let groups = read_rows(alloc, labels, files, grouping.filter, hashing, groups)?;
-    Ok(Made::Groups {
+    Ok(Printout::Groups {
         groups,
         sorted: grouping.sorted,
         columns: grouping.columns,

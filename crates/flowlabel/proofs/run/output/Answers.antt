@@ -5,7 +5,7 @@ use Rattle.pmap_cert.specs.FormatReading.{format_reading}
 use Rattle.flow_files.specs.ByFile as role
 use Rattle.flow_files.specs.declared.bytes_fault.BytesFault.TheVariants.{Certificate as InCertificate}
 use Rattle.flow_files.specs.Outcomes.{Prints}
-use Rattle.flowlabel.proofs.MadeLemmas.{faulty, makes}
+use Rattle.flowlabel.proofs.PrintoutLemmas.{faulty, is_printout}
 use Rattle.flow_files.proofs.ReadLemmas.{named_in, none_read, text_read}
 use Rattle.flowlabel.proofs.run.output.Goals as goal
 
@@ -40,6 +40,6 @@ returns-in_err-certificate-in-Recert g c =
 pub returns-in_ok-certificate-in-Recert : goal.returns-in_ok-certificate-in-Recert
 returns-in_ok-certificate-in-Recert g c =
     rw c.in-Recert.is
-    (makes (λ k. Prints (certificate_text (compact k))) (text_read (none_read 2 c.args.files.now c.requires) role.Certificate (omega arith) (omega arith)
+    (is_printout (λ k. Prints (certificate_text (compact k))) (text_read (none_read 2 c.args.files.now c.requires) role.Certificate (omega arith) (omega arith)
     (λ bytes. named_in InCertificate (λ own. refl) (format_reading bytes))
     c.in_ok-certificate-in-Recert.ensures) (omega arith) (λ k same. (tt, λ out is. ap Ok (is ∙ ap (λ x. certificate_text (compact x)) (sym same)))))

@@ -1,5 +1,5 @@
 use Rattle.std.proofs.Common.{arith, refl}
-use Rattle.flowlabel.proofs.MadeLemmas.{faulty, makes}
+use Rattle.flowlabel.proofs.PrintoutLemmas.{faulty, is_printout}
 use Rattle.flow_files.proofs.ReadLemmas.{no_memory_left}
 use Rattle.flowlabel.proofs.run.cat.output.Goals as goal
 
@@ -11,4 +11,4 @@ returns-in_err-runs g c = no_memory_left c.in_ok-labels.ensures.read (omega arit
 
 pub returns : goal.returns
 returns g c =
-    makes _ c.in_ok-labels.ensures.read (omega arith) (λ l same. (c.in_ok-runs.ensures.0, λ out is. rw same (out, c.in_ok-runs.ensures.1 out is, refl)))
+    is_printout _ c.in_ok-labels.ensures.read (omega arith) (λ l same. (c.in_ok-runs.ensures.0, λ out is. rw same (out, c.in_ok-runs.ensures.1 out is, refl)))

@@ -22,7 +22,7 @@ use Rattle.flow_files.specs.Outcomes.{with_bytes_fault}
 use Rattle.flowlabel.specs.Output.{check_reading, minimal_text}
 use Rattle.flow_files.specs.Sources.{Text}
 use Rattle.flow_files.proofs.ReadLemmas.{decoded, list_in, list_read, map_in, map_read, no_memory_left, text_read, then_err, then_ok}
-use Rattle.flowlabel.proofs.MadeLemmas.{faulty, makes}
+use Rattle.flowlabel.proofs.PrintoutLemmas.{faulty, is_printout}
 use Rattle.flowlabel.proofs.run.check.output.Goals as goal
 
 -- the faults of a check are of the certificate
@@ -96,7 +96,7 @@ pub returns : goal.returns
 returns g c map list certificate =
     let m = map_of c.in_ok-map.map in
     let l = list_of c.in_ok-list.list in
-    makes {n = 4} _ {v = c.in_ok-checked.field-0} (then_ok {is' = λ (l : ListModel) (out : Vec ℕ). out.items ≡ minimal_text (length l.prefixes)} (λ texts l. Ok l)
+    is_printout {n = 4} _ {v = c.in_ok-checked.field-0} (then_ok {is' = λ (l : ListModel) (out : Vec ℕ). out.items ≡ minimal_text (length l.prefixes)} (λ texts l. Ok l)
     (text_read (list_read (map_read c.args.files.now c.requires c.in_ok-map.ensures) (omega arith) c.in_ok-list.ensures)
     role.Certificate (omega arith) (omega arith) (of_check m l)
     (c.in_ok-checked.ensures c.in_ok-map.map c.in_ok-list.list c.in_ok-swept_map.ensures.map c.in_ok-swept_list.ensures.list)) (omega arith)

@@ -1,8 +1,8 @@
 use Rattle.std.proofs.Common.{◌∙◌, Ok, ap, arith}
 use Rattle.pmap_print.specs.Reports.{info_text}
-use Rattle.flowlabel.proofs.MadeLemmas.{faulty, makes}
+use Rattle.flowlabel.proofs.PrintoutLemmas.{faulty, is_printout}
 use Rattle.flow_files.proofs.ReadLemmas.{flows_read, no_memory_left, none_read}
-use Rattle.flowlabel.specs.Reports.{HasCounts}
+use Rattle.flowlabel.specs.Printouts.{HasCounts}
 use Rattle.flowlabel.proofs.run.info.output.Goals as goal
 
 pub returns-in_err-buffer : goal.returns-in_err-buffer
@@ -20,5 +20,5 @@ returns-in_err-print_info g c flows =
 
 pub returns : goal.returns
 returns g c flows =
-    makes _ (flows_read (none_read 3 c.args.files.now c.requires) {is = λ messages _. HasCounts messages c.add_messages.new.taker} (omega arith) c.in_ok-add_messages.ensures.reads) (omega arith)
+    is_printout _ (flows_read (none_read 3 c.args.files.now c.requires) {is = λ messages _. HasCounts messages c.add_messages.new.taker} (omega arith) c.in_ok-add_messages.ensures.reads) (omega arith)
     (λ messages is. (tt, λ out same. ap Ok (same ∙ c.in_ok-print_info.ensures ∙ ap info_text is)))

@@ -1,6 +1,6 @@
 use Rattle.std.proofs.Common.{◌∙◌, Ok, ap, arith, sym}
 use Rattle.flowlabel.specs.Output.{label_text}
-use Rattle.flowlabel.proofs.MadeLemmas.{faulty, makes}
+use Rattle.flowlabel.proofs.PrintoutLemmas.{faulty, is_printout}
 use Rattle.flow_files.proofs.ReadLemmas.{no_memory_left}
 use Rattle.flowlabel.proofs.run.label.output.Goals as goal
 
@@ -12,5 +12,5 @@ returns-in_err-line_of g c = no_memory_left c.in_ok-read.ensures.read (omega ari
 
 pub returns : goal.returns
 returns g c =
-    makes _ c.in_ok-read.ensures.read (omega arith)
+    is_printout _ c.in_ok-read.ensures.read (omega arith)
     (λ l same. (tt, λ out is. ap Ok (is ∙ c.in_ok-line_of.ensures ∙ ap (label_text (c.args.addr.version, c.args.addr.value)) (sym same))))

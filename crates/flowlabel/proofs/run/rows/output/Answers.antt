@@ -3,7 +3,7 @@ use Rattle.pmap_print.specs.Reports.{column_count, title_line}
 use Rattle.pmap_print.specs.Table.{IsTable, table_text}
 use Rattle.flowlabel.specs.Output.{labelled_row_lines}
 use Rattle.flow_files.specs.Reports.{passing_rows}
-use Rattle.flowlabel.proofs.MadeLemmas.{faulty, makes}
+use Rattle.flowlabel.proofs.PrintoutLemmas.{faulty, is_printout}
 use Rattle.flow_files.proofs.ReadLemmas.{no_memory_left, none_read}
 use Rattle.flowlabel.proofs.run.rows.output.Goals as goal
 
@@ -26,7 +26,7 @@ returns-in_err-lines g c flows = faulty _ c.in_err-lines.ensures (omega arith) (
 
 pub returns : goal.returns
 returns g c flows =
-    makes _ c.in_ok-lines.ensures (omega arith) (λ read has. (
+    is_printout _ c.in_ok-lines.ensures (omega arith) (λ read has. (
       (_, _, has.lines),
       λ out is.
           ap Ok (is _ _ has.lines

@@ -5,7 +5,7 @@ use Rattle.label_lookup.specs.Labelling.{label_where}
 use Rattle.pmap_print.specs.Reports.{groups_text}
 use Rattle.flow_files.specs.Reports.{passing_rows}
 use Rattle.flow_files.proofs.GroupLemmas.{groups-table}
-use Rattle.flowlabel.proofs.MadeLemmas.{faulty, makes}
+use Rattle.flowlabel.proofs.PrintoutLemmas.{faulty, is_printout}
 use Rattle.flow_files.proofs.ReadLemmas.{no_memory_left, none_read}
 use Rattle.flowlabel.proofs.run.uniq.output.Goals as goal
 
@@ -23,7 +23,7 @@ returns-in_err-groups-2 g c flows = faulty _ c.in_err-groups-2.ensures (omega ar
 pub returns : goal.returns
 returns g c flows =
     let grouping = c.args.grouping in
-    makes _ c.in_ok-groups-2.ensures (omega arith) (λ read has. (
+    is_printout _ c.in_ok-groups-2.ensures (omega arith) (λ read has. (
       tt,
       λ out same.
           ap Ok (same

@@ -4,7 +4,7 @@ use Rattle.pmap_cert.specs.CertificateText.{certificate_text}
 use Rattle.pmap_cert.specs.Compacting.{compact}
 use Rattle.pmap_cert.specs.declared.certificate.Certificate.{Certificate}
 use Rattle.flow_files.specs.Reports.{IsTextWritten}
-use Rattle.flowlabel.proofs.run.write_made.Goals as goal
+use Rattle.flowlabel.proofs.run.write_printout.Goals as goal
 
 pub returns-in_ok-new-in-List : goal.returns-in_ok-new-in-List
 returns-in_ok-new-in-List g c =

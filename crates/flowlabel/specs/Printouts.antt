@@ -28,34 +28,35 @@ use Rattle.flow_files.specs.Sources.{Text}
 use Rattle.flow_files.specs.Readers.{Readers}
 use Rattle.flow_files.specs.declared.fault.RunFault.{RunFault}
 use Rattle.flow_files.specs.declared.labels.LabelsRead.{LabelsRead}
-use Rattle.flowlabel.specs.declared.run.made.Made.{Made}
-use Rattle.flowlabel.specs.declared.run.made.Made.TheVariants as made
+use Rattle.flowlabel.specs.declared.run.printout.Printout.{Printout}
+use Rattle.flowlabel.specs.declared.run.printout.Printout.TheVariants as printout
 use Rattle.flowlabel.specs.declared.run.info.Counted.{Counted}
 use Rattle.flowlabel.specs.declared.run.rows.Lines.{Lines}
 use Rattle.flow_files.specs.Reports.{labelling_read, table_read, AreRead}
 
--- What the parts of a command make of what they read.
+-- Printouts, and what the parts of commands build them from.
 
--- what a command made can be printed
-abbrev pub IsWhole : Made → Type 0
-IsWhole (made.Table table) = (count : ℕ) × (lines : List Line) × IsTable count lines table
-IsWhole (made.Runs runs labels) = AreLabelsBelow (length (table_read labels)) runs.stretches
-IsWhole (made.Opened certificate) = (c : CertificateModel) × IsOpening certificate c
+-- the printout can be printed
+abbrev pub IsWhole : Printout → Type 0
+IsWhole (printout.Table table) = (count : ℕ) × (lines : List Line) × IsTable count lines table
+IsWhole (printout.Runs runs labels) = AreLabelsBelow (length (table_read labels)) runs.stretches
+IsWhole (printout.Opened certificate) = (c : CertificateModel) × IsOpening certificate c
 IsWhole _ = ⊤
 
 -- this is its text
-abbrev pub IsTextOf : Made → Text → Type 0
-IsTextOf (made.Text bytes) text = text ≡ bytes.items
-IsTextOf (made.Table table) text =
+abbrev pub IsTextOf : Printout → Text → Type 0
+IsTextOf (printout.Text bytes) text = text ≡ bytes.items
+IsTextOf (printout.Table table) text =
     (count : ℕ) (lines : List Line) → IsTable count lines table → text ≡ table_text (has_columns table) lines
-IsTextOf (made.Groups groups sorted columns) text =
+IsTextOf (printout.Groups groups sorted columns) text =
     text ≡ groups_text groups.fields (shown_groups sorted groups.groups) columns
-IsTextOf (made.Runs runs labels) text =
+IsTextOf (printout.Runs runs labels) text =
     IsRunsText runs.stretches.version (text_held (table_read labels) runs.stretches) text
-IsTextOf (made.List list) text = text ≡ list_text (list_of list)
-IsTextOf (made.Certificate certificate) text = text ≡ certificate_text (certificate_of certificate)
-IsTextOf (made.Compact certificate) text = text ≡ certificate_text (compact (certificate_of certificate))
-IsTextOf (made.Opened certificate) text = (c : CertificateModel) → IsOpening certificate c → text ≡ certificate_text c
+IsTextOf (printout.List list) text = text ≡ list_text (list_of list)
+IsTextOf (printout.Certificate certificate) text = text ≡ certificate_text (certificate_of certificate)
+IsTextOf (printout.Compact certificate) text = text ≡ certificate_text (compact (certificate_of certificate))
+IsTextOf (printout.Opened certificate) text =
+    (c : CertificateModel) → IsOpening certificate c → text ≡ certificate_text c
 
 -- these runs are printed as those of the labels
 abbrev pub AreRunsFor : LabelsRead → Runs → Type 0
@@ -63,21 +64,21 @@ AreRunsFor labels runs = AreLabelsBelow (length (table_read labels)) runs.stretc
     × ((text : Text) → IsRunsText runs.stretches.version (text_held (table_read labels) runs.stretches) text
     → IsRunsText (labelling_read labels).version (labelling_read labels).label text)
 
--- what `shrink` made of a map
-abbrev pub IsShrunk : Shrunk → MapModel → Made → Type 0
-IsShrunk printed m made = IsWhole made
-    × ((text : Text) → IsTextOf made text
+-- the printout of `shrink` for a map
+abbrev pub IsShrunk : Shrunk → MapModel → Printout → Type 0
+IsShrunk printed m printout = IsWhole printout
+    × ((text : Text) → IsTextOf printout text
     → (l : ListModel) × (c : CertificateModel) × IsMinimalPair m l c × (text ≡ shrunk_text printed l c))
 
--- the result of a command with this outcome: what prints it, or its fault
-abbrev pub Makes : (Outcome → Type 0) → Result Made BytesFault → Type 0
-Makes Is (Ok made) = IsWhole made × ((text : Text) → IsTextOf made text → Is (Ok text))
-Makes Is (Err fault) = Is (Err fault)
+-- the result of a command with this outcome: its printout, or its fault
+abbrev pub HasOutcome : (Outcome → Type 0) → Result Printout BytesFault → Type 0
+HasOutcome Is (Ok printout) = IsWhole printout × ((text : Text) → IsTextOf printout text → Is (Ok text))
+HasOutcome Is (Err fault) = Is (Err fault)
 
--- what a command returns, by its outcomes
-abbrev pub IsMade : {R : Type 0} → (R → InputView) → (ByFile Text → Outcome → Type 0) → Readers R → Readers R
-    → Result Made RunFault → Type 0
-IsMade input Is = AreRead input 4 (λ texts. Makes (Is texts))
+-- the printout of a command with these outcomes, or its fault
+abbrev pub IsPrintout : {R : Type 0} → (R → InputView) → (ByFile Text → Outcome → Type 0) → Readers R → Readers R
+    → Result Printout RunFault → Type 0
+IsPrintout input Is = AreRead input 4 (λ texts. HasOutcome (Is texts))
 
 -- the labels of a row's source and destination
 abbrev pub row_labels : Labelling → RowView → LabelTexts

@@ -1,4 +1,4 @@
-use Rattle.flowlabel.proofs.run.shrink.made_of.Goals as goal
+use Rattle.flowlabel.proofs.run.shrink.printout_of.Goals as goal
 
 pub returns-in_ok-compact_certificate-in-Certificate : goal.returns-in_ok-compact_certificate-in-Certificate
 returns-in_ok-compact_certificate-in-Certificate c =

@@ -8,7 +8,7 @@ use pmap_stretches::Runs;
 
 /// The output of a command, before it is printed.
 #[derive(Drop)]
-pub enum Made {
+pub enum Printout {
     /// A text.
     Text(Vec<u8>),
     /// A table of rows.
