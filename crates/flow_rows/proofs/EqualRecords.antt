@@ -10,10 +10,10 @@ use Rattle.ipfix_templates.specs.declared.field.Field.{Field}
 use Rattle.ipfix_templates.specs.declared.layout.RowLayout.{RowLayout}
 use Rattle.ipfix_templates.specs.Layout.{is_there}
 use Rattle.ipfix_templates.specs.Runs.{last_run_from, runs_from}
-use Rattle.ipfix_read.specs.Value.{FieldValueView, bytes_at, values_at}
+use Rattle.ipfix_read.specs.Value.{FieldValueView, after_runs, bytes_at, values_at}
 use Rattle.ipfix_read.specs.WholeRecords.{AreInBytes}
 use Rattle.ipfix_read.specs.declared.record.Record.{Record}
-use Rattle.ipfix_read.proofs.RecordValues.{after_runs, left, runs_are}
+use Rattle.ipfix_read.proofs.RecordValues.{left, runs_are}
 use Rattle.flow_rows.specs.Elements.{rows_of_record}
 use Rattle.flow_rows.specs.Inner.{AreUsable, HaveLayout, number_there, row_at}
 use Rattle.flow_rows.proofs.Usable.{fields_of}

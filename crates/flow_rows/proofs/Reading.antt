@@ -1,56 +1,30 @@
 -- What is read at the places of elements is what the values of a record say of them.
-use Rattle.std.proofs.Common.{◌≡◌, ◌∙◌, ℕ, ◌+◌, ◌≤◌, true, false, cond, ltb, List, [], ◌∷◌, ◌++◌, length, take, drop, Option, Some, None, inl, inr, refl, sym, ap, subst, arith, append_assoc, length-append, take-append-drop}
+use Rattle.std.proofs.Common.{◌≡◌, ◌∙◌, ℕ, ◌+◌, ◌≤◌, true, false, cond, List, [], ◌∷◌, ◌++◌, length, take, drop, Option, Some, None, refl, sym, ap, arith, append-nil, append_assoc, length-append}
 use Rattle.std.specs.Prelude.{option_and_then, option_map, unwrap_or}
-use Rattle.std.proofs.lemmas.Bool.{le-ltb, ltb-false}
-use Rattle.std.proofs.lemmas.List.{drop_at, length-drop, length-take-le, take_at}
-use Rattle.ipfix_templates.proofs.Choice.{chosen, gave, some_is}
+use Rattle.std.proofs.lemmas.Bool.{le-ltb}
+use Rattle.std.proofs.lemmas.List.{length-drop, take_at}
+use Rattle.ipfix_templates.proofs.Choice.{gave, mapped, some_is}
 use Rattle.ipfix_templates.specs.Elements.{is_usable}
 use Rattle.ipfix_templates.specs.declared.field.Field.{Field as FieldView}
 use Rattle.ipfix_templates.specs.Field.{is_variable}
 use Rattle.ipfix_templates.specs.declared.layout.Place.{Place}
 use Rattle.ipfix_templates.specs.Layout.{place_of_element}
 use Rattle.ipfix_templates.specs.Runs.{runs_from}
-use Rattle.ipfix_read.specs.Value.{FieldValueView, bytes_at, value_at, values_at, variable_at}
+use Rattle.ipfix_read.specs.Value.{FieldValueView, after_runs, bytes_at, value_at, values_at, variable_at}
+use Rattle.ipfix_read.proofs.RecordValues.{both_first, fixed_is, then_left, value_shorter, variable_is}
 use Rattle.flow_rows.specs.Elements.{element}
-use Rattle.flow_rows.specs.Inner.{after_values, big_endian, bytes_there, number_there}
+use Rattle.flow_rows.specs.Inner.{big_endian, bytes_there, number_there}
 use Rattle.flow_rows.proofs.Usable.{has_other_length}
 
--- the bytes that are there are the first ones
-cut : (count : ℕ) (front more : List ℕ) → length front ≡ count → bytes_at count (front ++ more) ≡ Some (front, more)
-cut count front more long =
-    rw (le-ltb (length (front ++ more)) count (omega (arith, length-append front more, long)), take_at front more count long, drop_at front more count long) refl
-
--- a value of fixed length is the first bytes
-fixed_value : (f : FieldView) (bytes : List ℕ) (v : List ℕ × List ℕ) → is_variable f ≡ false → value_at f bytes ≡ Some v
-    → (length v.0 ≡ f.length) × (bytes ≡ v.0 ++ v.1)
-unfolding value_at
-fixed_value f bytes v fixed read =
-    elim (chosen (ltb (length bytes) f.length) None (Some (take f.length bytes, drop f.length bytes)) (Some v) (rw fixed at read)) [
-      | inl p ↦ absurd (cc)
-      | inr p ↦
-          subst (λ (v : List ℕ × List ℕ). (length v.0 ≡ f.length) × (bytes ≡ v.0 ++ v.1)) (some_is _ _ p.1)
-          (length-take-le f.length bytes (ltb-false (length bytes) f.length p.0), sym (take-append-drop f.length bytes))
-    ]
-
-variable_value : (f : FieldView) (bytes : List ℕ) → is_variable f ≡ true → value_at f bytes ≡ variable_at bytes
-unfolding value_at
-variable_value f bytes is = rw is refl
-
--- one more value of variable length, after a run of bytes
-one_more_value : (runs : List ℕ) (run : ℕ) (bytes gap rest : List ℕ) (v : List ℕ × List ℕ) → after_values runs bytes ≡ Some (gap ++ rest)
-    → length gap ≡ run → variable_at rest ≡ Some v → after_values (runs ++ run ∷ []) bytes ≡ Some v.1
-one_more_value [] run bytes gap rest v is long read =
-    rw (some_is bytes (gap ++ rest) is, cut run gap rest long, read) refl
-one_more_value (n ∷ runs) run bytes gap rest v is long read =
-    let a = gave (bytes_at n bytes) (λ f. option_and_then (λ v. after_values runs v.1) (variable_at f.1)) (gap ++ rest) is in
-    let b = gave (variable_at a.0.1) (λ v. after_values runs v.1) (gap ++ rest) a.2 in
-    rw (a.1, b.1) (one_more_value runs run b.0.1 gap rest v b.2 long read)
-
--- the bytes of a value, after the values that are skipped and a gap
-found_there : (front more : List ℕ) (bytes gap value after : List ℕ) → after_values front bytes ≡ Some (gap ++ (value ++ after))
-    → bytes_there (record { offset = length gap; skips = length front; length = length value }) (front ++ more) bytes ≡ Some value
-found_there front more bytes gap value after is =
-    rw (take_at front more (length front) refl, is, cut (length gap) gap (value ++ after) refl, cut (length value) value after refl) refl
+-- the bytes after the runs lead to those after other runs, which begin with the same ones
+led : (runs next : List ℕ) (run last : ℕ) (bytes rest found : List ℕ) → after_runs runs run bytes ≡ Some rest
+    → ((from : List ℕ) → option_map (λ f. f.1) (bytes_at run from) ≡ Some rest → after_runs next last from ≡ Some found)
+    → after_runs (runs ++ next) last bytes ≡ Some found
+led [] next run last bytes rest found is leads = leads bytes is
+led (n ∷ runs) next run last bytes rest found is leads =
+    let a = gave (bytes_at n bytes) (λ f. option_and_then (λ v. after_runs runs run v.1) (variable_at f.1)) rest is in
+    let b = gave (variable_at a.0.1) (λ v. after_runs runs run v.1) rest a.2 in
+    rw (a.1, b.1) (led runs next run last b.0.1 rest found b.2 leads)
 
 -- the bytes at a place before all values of variable length
 pub before_values : (p : Place) (runs bytes : List ℕ) → p.skips ≡ 0 → p.offset + p.length ≤ length bytes
@@ -66,14 +40,10 @@ before_values p runs bytes none within =
 -- a number without bytes is 0
 pub none_there : (p : Place) (runs bytes : List ℕ) → p.length ≡ 0 → number_there p runs bytes ≡ 0
 none_there p runs bytes none =
-    elim (after_values (take p.skips runs) bytes) as (λ rest.
-    big_endian (unwrap_or (option_and_then (λ rest. option_and_then (λ f. option_map (λ v. v.0) (bytes_at p.length f.1)) (bytes_at p.offset rest)) rest) []) ≡ 0) [
+    elim (after_runs (take p.skips runs) p.offset bytes) as (λ rest.
+    big_endian (unwrap_or (option_and_then (λ rest. option_map (λ v. v.0) (bytes_at p.length rest)) rest) []) ≡ 0) [
       | None ↦ refl
-      | Some rest ↦ elim (bytes_at p.offset rest) as (λ f.
-          big_endian (unwrap_or (option_and_then (λ f. option_map (λ v. v.0) (bytes_at p.length f.1)) f) []) ≡ 0) [
-            | None ↦ refl
-            | Some f ↦ rw (none, cut 0 [] f.1 refl) refl
-          ]
+      | Some rest ↦ rw (none, le-ltb (length rest) 0 (omega arith)) refl
     ]
 
 -- the first value's number if its field is usable, otherwise that of the values after it
@@ -90,14 +60,14 @@ module _ (direction : Option ℕ) (number : ℕ) (bytes : List ℕ) where
   abbrev said_at : List ℕ → ℕ → ℕ → List FieldView → ℕ
   said_at front skips offset fields = number_there (place_of_element direction number skips offset fields) (front ++ runs_from offset fields) bytes
 
-  said_from : (fields : List FieldView) (front gap rest : List ℕ) (skips offset : ℕ) (x : List FieldValueView × List ℕ)
-      → skips ≡ length front → offset ≡ length gap → after_values front bytes ≡ Some (gap ++ rest) → values_at fields rest ≡ Some x
+  said_from : (fields : List FieldView) (front rest : List ℕ) (skips offset : ℕ) (x : List FieldValueView × List ℕ)
+      → skips ≡ length front → after_runs front offset bytes ≡ Some rest → values_at fields rest ≡ Some x
       → said_at front skips offset fields ≡ unwrap_or (element direction x.0 number) 0
   unfolding values_at
-  said_from [] front gap rest skips offset x skips_are offset_is after read =
+  said_from [] front rest skips offset x skips_are after read =
       none_there (record { offset = 0; skips = 0; length = 0 }) (front ++ runs_from offset []) bytes refl
       ∙ ap (λ (vs : List FieldValueView). unwrap_or (element direction vs number) 0) (ap (λ (y : List FieldValueView × List ℕ). y.0) (some_is ([], rest) x read))
-  said_from (f ∷ fs) front gap rest skips offset x skips_are offset_is after read =
+  said_from (f ∷ fs) front rest skips offset x skips_are after read =
       let a = gave (value_at f rest) (λ v. option_and_then (λ vs. Some (record { field = f; value = v.0 } ∷ vs.0, vs.1)) (values_at fs v.1)) x read in
       let b = gave (values_at fs a.0.1) (λ vs. Some (record { field = f; value = a.0.0 } ∷ vs.0, vs.1)) x a.2 in
       let first : FieldValueView = record { field = f; value = a.0.0 } in
@@ -105,12 +75,11 @@ module _ (direction : Option ℕ) (number : ℕ) (bytes : List ℕ) where
       let said = λ (vs : List FieldValueView). unwrap_or (element direction vs number) 0 in
       elim (is_usable direction number f) as (λ b. is_usable direction number f ≡ b → said_at front skips offset (f ∷ fs) ≡ said x.0) [
         | true ↦ λ usable.
-            let fixed : is_variable f ≡ false = has_other_length 65535 refl direction number f usable in
-            let v = fixed_value f rest a.0 fixed a.1 in
-            let there : bytes_there (record { offset = length gap; skips = length front; length = length a.0.0 }) (front ++ runs_from offset (f ∷ fs)) bytes ≡ Some a.0.0 =
-            found_there front (runs_from offset (f ∷ fs)) bytes gap a.0.0 a.0.1 (after ∙ ap (λ (r : List ℕ). Some (gap ++ r)) v.1) in
+            let value = sym (fixed_is f rest (has_other_length 65535 refl direction number f usable)) ∙ a.1 in
+            let there : bytes_there (record { offset = offset; skips = length front; length = f.length }) (front ++ runs_from offset (f ∷ fs)) bytes ≡ Some a.0.0 =
+            rw (take_at front (runs_from offset (f ∷ fs)) (length front) refl, after, value) refl in
             rw usable
-            ((λ i. number_there (record { offset = offset_is i; skips = skips_are i; length = sym v.0 i }) (front ++ runs_from offset (f ∷ fs)) bytes)
+            ((λ i. number_there (record { offset = offset; skips = skips_are i; length = f.length }) (front ++ runs_from offset (f ∷ fs)) bytes)
             ∙ ap (λ (o : Option (List ℕ)). big_endian (unwrap_or o [])) there
             ∙ sym (ap (λ (o : Option ℕ). unwrap_or o 0) (element-used direction number first b.0.0 usable)) ∙ ap said are)
         | false ↦ λ unusable.
@@ -121,17 +90,19 @@ module _ (direction : Option ℕ) (number : ℕ) (bytes : List ℕ) where
             (front ++ cond c (offset ∷ runs_from 0 fs) (runs_from (offset + f.length) fs)) bytes
             ≡ said x.0) [
               | true ↦ λ variable.
-                  let next : after_values (front ++ offset ∷ []) bytes ≡ Some a.0.1 =
-                  one_more_value front offset bytes gap rest a.0 after (sym offset_is) (sym (variable_value f rest variable) ∙ a.1) in
+                  let next : after_runs (front ++ offset ∷ []) 0 bytes ≡ Some a.0.1 =
+                  led front (offset ∷ []) offset 0 bytes rest a.0.1 after (λ from is.
+                  let b = mapped (bytes_at offset from) (λ f. f.1) rest is in
+                  rw (b.1, b.2, sym (variable_is f rest variable) ∙ a.1, le-ltb (length a.0.1) 0 (omega arith)) refl) in
                   ap (λ (runs : List ℕ). number_there (place_of_element direction number (skips + 1) 0 fs) runs bytes) (sym (append_assoc front (offset ∷ []) (runs_from 0 fs)))
-                  ∙ said_from fs (front ++ offset ∷ []) [] a.0.1 (skips + 1) 0 b.0
-                  (omega (arith, skips_are, length-append front (offset ∷ []))) refl next b.1
+                  ∙ said_from fs (front ++ offset ∷ []) a.0.1 (skips + 1) 0 b.0 (omega (arith, skips_are, length-append front (offset ∷ []))) next b.1
                   ∙ passed
               | false ↦ λ fixed.
-                  let v = fixed_value f rest a.0 fixed a.1 in
-                  said_from fs front (gap ++ a.0.0) a.0.1 skips (offset + f.length) b.0 skips_are
-                  (omega (arith, offset_is, v.0, length-append gap a.0.0))
-                  (after ∙ ap (λ (r : List ℕ). Some (gap ++ r)) v.1 ∙ ap (λ (r : List ℕ). Some r) (sym (append_assoc gap a.0.0 a.0.1)))
+                  said_from fs front a.0.1 skips (offset + f.length) b.0 skips_are
+                  (rw (append-nil front) at (led front [] offset (offset + f.length) bytes rest a.0.1 after (λ from is.
+                  let b = mapped (bytes_at offset from) (λ f. f.1) rest is in
+                  then_left (bytes_at (offset + f.length) from) ∙ sym (both_first (λ bs. Some bs) offset f.length from)
+                  ∙ rw (b.1, b.2, sym (fixed_is f rest fixed) ∙ a.1) refl)))
                   b.1
                   ∙ passed
             ]
@@ -167,8 +138,7 @@ within_record direction number offset [] rest x read none = omega arith
 within_record direction number offset (f ∷ fs) rest x read none =
     let a = gave (value_at f rest) (λ v. option_and_then (λ vs. Some (record { field = f; value = v.0 } ∷ vs.0, vs.1)) (values_at fs v.1)) x read in
     let b = gave (values_at fs a.0.1) (λ vs. Some (record { field = f; value = a.0.0 } ∷ vs.0, vs.1)) x a.2 in
-    let sizes : is_variable f ≡ false → length rest ≡ f.length + length a.0.1 =
-    (λ fixed. let v = fixed_value f rest a.0 fixed a.1 in omega (arith, v.0, ap length v.1, length-append a.0.0 a.0.1)) in
+    let sizes : is_variable f ≡ false → length a.0.1 + f.length ≤ length rest = (λ fixed. rw fixed at (value_shorter f rest a.0 a.1)) in
     elim (is_usable direction number f) as (λ c. is_usable direction number f ≡ c →
     let p = cond c (record { offset = offset; skips = 0; length = f.length })
     (cond (is_variable f) (place_of_element direction number 1 0 fs) (place_of_element direction number 0 (offset + f.length) fs)) in
@@ -189,4 +159,4 @@ pub said_there : (direction : Option ℕ) (number : ℕ) (fields : List FieldVie
     → values_at fields bytes ≡ Some (values, rest)
     → number_there (place_of_element direction number 0 0 fields) (runs_from 0 fields) bytes ≡ unwrap_or (element direction values number) 0
 said_there direction number fields bytes values rest read =
-    said_from direction number bytes fields [] [] bytes 0 0 (values, rest) refl refl refl read
+    said_from direction number bytes fields [] bytes 0 0 (values, rest) refl (rw (le-ltb (length bytes) 0 (omega arith)) refl) read

@@ -1,4 +1,4 @@
-use Rattle.std.specs.Prelude.{◌≡◌, ℕ, ◌+◌, ◌≤◌, ◌==◌, All, List, [], ◌∷◌, length, map, take, Bool}
+use Rattle.std.specs.Prelude.{◌≡◌, ℕ, ◌+◌, ◌≤◌, ◌==◌, All, List, [], length, map, take, Bool}
 use Rattle.std.specs.Prelude.{Option, Some, None, option_and_then, option_map, unwrap_or, if◌then◌else◌}
 use Rattle.prefix_keys.specs.declared.version.Version.{Version}
 use Rattle.prefix_keys.specs.declared.version.Version.TheVariants.{V4, V6}
@@ -10,24 +10,17 @@ use Rattle.ipfix_templates.specs.declared.layout.RowLayout.{RowLayout}
 use Rattle.ipfix_templates.specs.Layout.{layout_of}
 use Rattle.ipfix_templates.specs.Runs.{runs_from}
 use Rattle.ipfix_read.specs.declared.record.Record.{Record}
-use Rattle.ipfix_read.specs.Value.{bytes_at, variable_at}
+use Rattle.ipfix_read.specs.Value.{after_runs, bytes_at}
 use Rattle.byteorder.specs.Endian.{big_number}
 use Rattle.flow_rows.specs.Elements.{RowView}
 
 -- What is read at the places of a row's numbers. This is private, and callers of the crate need not read it.
 
--- the bytes after values of variable length, each after a run of bytes
-abbrev pub after_values : List ℕ → List ℕ → Option (List ℕ)
-after_values [] bytes = Some bytes
-after_values (run ∷ runs) bytes =
-    option_and_then (λ f. option_and_then (λ v. after_values runs v.1) (variable_at f.1)) (bytes_at run bytes)
-
 -- the bytes at a place in a record, given the runs of bytes before its values of variable length
 abbrev pub bytes_there : Place → List ℕ → List ℕ → Option (List ℕ)
 bytes_there p runs bytes =
-    option_and_then (λ rest.
-    option_and_then (λ f. option_map (λ v. v.0) (bytes_at p.length f.1)) (bytes_at p.offset rest))
-    (after_values (take p.skips runs) bytes)
+    option_and_then (λ rest. option_map (λ v. v.0) (bytes_at p.length rest))
+    (after_runs (take p.skips runs) p.offset bytes)
 
 -- the number of bytes in network byte order
 abbrev pub big_endian : List ℕ → ℕ

@@ -3,7 +3,7 @@ ghost use Rattle.std.specs.Prelude.{◌≡◌, ◌+◌, ◌≤◌, ◌⊎◌, []
 ghost use Rattle.flow_rows.specs.Inner.{IsWithin, bytes_there, number_there};
 
 use byteorder::{BigEndian, ByteOrder};
-use ipfix_read::read_variable;
+use ipfix_read::skip_runs;
 use ipfix_templates::Place;
 
 // Returns the bytes at a place in a record, given the number of bytes between each value of variable length and the one
@@ -12,13 +12,8 @@ fn find_bytes<'a>(place: &Place, runs: &[u32], bytes: &'a [u8]) -> Option<&'a [u
     ensures there { option_map (λ x. x.now) result ≡ bytes_there place.now runs.now bytes.now }
     ensures size { IfSome result (λ x. length x.now ≡ place.now.length) }
 {
-    let mut rest = bytes;
-    for run in &runs[..usize::from(place.skips).min(runs.len())] {
-        let (_fixed, from) = rest.split_at_checked(*run as usize)?;
-        let (_value, after) = read_variable(from)?;
-        rest = after;
-    }
-    let (_before, from) = rest.split_at_checked(place.offset as usize)?;
+    let before = &runs[..usize::from(place.skips).min(runs.len())];
+    let from = skip_runs(before, place.offset, bytes)?;
     let (value, _after) = from.split_at_checked(usize::from(place.length))?;
     Some(value)
 }

@@ -1,5 +1,6 @@
 -- The values at the start of bytes, and the bytes that they take.
 use Rattle.std.proofs.Common.{◌≡◌, ℕ, ◌+◌, ◌-◌, ◌<◌, ◌≤◌, Bool, true, false, cond, ltb, eqb, List, [], ◌∷◌, ◌++◌, length, take, drop, Option, Some, None, Ok, Err, inl, inr, refl, sym, ap, subst, ◌∙◌, append_assoc, length-append, length-drop, drop-drop, arith, zero, suc, ◌*◌, ◌/◌, All, map}
+use Rattle.std.specs.Borrow.{Bor}
 use Rattle.std.specs.Prelude.{ok_or, option_and_then, option_map, ◌||◌}
 use Rattle.std.proofs.lemmas.Bool.{cases_lt, le-ltb}
 use Rattle.std.proofs.lemmas.Bool.Decides.{nat_tests}
@@ -9,7 +10,7 @@ use Rattle.ipfix_templates.specs.declared.field.Field.{Field}
 use Rattle.ipfix_templates.specs.Field.{is_variable, least_length}
 use Rattle.ipfix_templates.specs.Runs.{runs_from, last_run_from}
 use Rattle.ipfix_templates.specs.Reading.{after_items}
-use Rattle.ipfix_read.specs.Value.{FieldValueView, bytes_at, variable_at, value_at, values_at, whole_values}
+use Rattle.ipfix_read.specs.Value.{FieldValueView, after_runs, bytes_at, variable_at, value_at, values_at, whole_values}
 use Rattle.ipfix_templates.proofs.Choice.{gave, some_is, mapped}
 use Rattle.ipfix_templates.proofs.Reading.{at_end, at_fault, at_item, no_items}
 use Rattle.std.proofs.lemmas.List.Sums.{sum_by-cons}
@@ -47,22 +48,18 @@ abbrev pub left : Option (List FieldValueView × List ℕ) → Option (List ℕ)
 left read = option_map (λ x. x.1) read
 
 -- the reading from the bytes that it leaves
-pub whole_left : (fields : List Field) (bytes : List ℕ) → option_map (λ rest. (whole_values fields bytes, rest)) (left (values_at fields bytes)) ≡ values_at fields bytes
-whole_left fields bytes = elim (values_at fields bytes) as (λ o. values_at fields bytes ≡ o → option_map (λ rest. (whole_values fields bytes, rest)) (left o) ≡ o) [
-  | None ↦ λ e. refl
-  | Some x ↦ λ e. ap (λ (vs : List FieldValueView). Some (vs, x.1)) (whole_is fields bytes x e)
-] refl
-
--- the remaining bytes after runs of bytes, each followed by a variable value, and a last run
-abbrev pub after_runs : List ℕ → ℕ → List ℕ → Option (List ℕ)
-after_runs [] last bytes = option_map (λ f. f.1) (bytes_at last bytes)
-after_runs (n ∷ ns) last bytes = option_and_then (λ f. option_and_then (λ v. after_runs ns last v.1) (variable_at f.1)) (bytes_at n bytes)
+pub whole_left : (fields : List Field) (bytes : List ℕ) (rest : Option (Bor (List ℕ))) → option_map (λ r. r.now) rest ≡ left (values_at fields bytes)
+    → option_map (λ r. (whole_values fields bytes, r.now)) rest ≡ values_at fields bytes
+whole_left fields bytes rest same = elim (values_at fields bytes) as (λ o. values_at fields bytes ≡ o → option_map (λ r. r.now) rest ≡ left o → option_map (λ r. (whole_values fields bytes, r.now)) rest ≡ o) [
+  | None ↦ λ e same. grind (arith, common_steps)
+  | Some x ↦ λ e same. let whole = whole_is fields bytes x e in grind (arith, common_steps)
+] refl same
 
 then_alike : {A B : Type 0} (o : Option A) (f g : A → Option B) → ((x : A) → f x ≡ g x) → option_and_then f o ≡ option_and_then g o
 then_alike None f g alike = refl
 then_alike (Some x) f g alike = alike x
 
-then_left : (o : Option (List ℕ × List ℕ)) → option_map (λ f. f.1) o ≡ option_and_then (λ f. Some f.1) o
+pub then_left : (o : Option (List ℕ × List ℕ)) → option_map (λ f. f.1) o ≡ option_and_then (λ f. Some f.1) o
 then_left None = refl
 then_left (Some x) = refl
 
@@ -71,11 +68,11 @@ left_cons : (field : Field) (fields : List Field) (bytes : List ℕ) → left (v
 unfolding values_at
 left_cons field fields bytes = grind (arith, common_steps)
 
-variable_is : (field : Field) (bytes : List ℕ) → is_variable field ≡ true → value_at field bytes ≡ variable_at bytes
+pub variable_is : (field : Field) (bytes : List ℕ) → is_variable field ≡ true → value_at field bytes ≡ variable_at bytes
 unfolding value_at
 variable_is field bytes is = rw is refl
 
-fixed_is : (field : Field) (bytes : List ℕ) → is_variable field ≡ false → value_at field bytes ≡ bytes_at field.length bytes
+pub fixed_is : (field : Field) (bytes : List ℕ) → is_variable field ≡ false → value_at field bytes ≡ bytes_at field.length bytes
 unfolding value_at
 fixed_is field bytes is = rw is refl
 
@@ -88,7 +85,7 @@ abbrev then_next : (List ℕ → Option (List ℕ)) → Option (List ℕ × List
 then_next next read = option_and_then (λ f. next f.1) read
 
 -- two runs of bytes, followed by the next step
-both_first : (next : List ℕ → Option (List ℕ)) (a b : ℕ) (bytes : List ℕ)
+pub both_first : (next : List ℕ → Option (List ℕ)) (a b : ℕ) (bytes : List ℕ)
     → option_and_then (λ f. then_next next (bytes_at b f.1)) (bytes_at a bytes) ≡ then_next next (bytes_at (a + b) bytes)
 both_first next a b bytes = let shorter = length-drop a bytes in let later = drop-drop b a bytes in grind (arith, nat_tests, common_steps)
 
@@ -126,10 +123,10 @@ variable_shorter (first ∷ bytes) x e =
     let long = bytes_shorter (big_number 2 bytes) (drop 2 bytes) x in
     let two = length-drop 2 bytes in grind (arith, common_steps)
 
-abbrev least_field_length : Field → ℕ
+abbrev pub least_field_length : Field → ℕ
 least_field_length f = cond (is_variable f) 1 f.length
 
-value_shorter : (field : Field) (bytes : List ℕ) (x : List ℕ × List ℕ) → value_at field bytes ≡ Some x → length x.1 + least_field_length field ≤ length bytes
+pub value_shorter : (field : Field) (bytes : List ℕ) (x : List ℕ × List ℕ) → value_at field bytes ≡ Some x → length x.1 + least_field_length field ≤ length bytes
 unfolding value_at
 value_shorter field bytes x e =
     let variable = variable_shorter bytes x in

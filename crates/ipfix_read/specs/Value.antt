@@ -40,6 +40,12 @@ values_at (field ∷ fields) bytes =
 abbrev pub IsValueOf : Field → List ℕ → Type 0
 IsValueOf field value = is_variable field ≡ false → length value ≡ field.length
 
+-- the bytes after runs of bytes, each followed by a value of variable length, and after a last run
+abbrev pub after_runs : List ℕ → ℕ → List ℕ → Option (List ℕ)
+after_runs [] last bytes = option_map (λ f. f.1) (bytes_at last bytes)
+after_runs (run ∷ runs) last bytes =
+    option_and_then (λ f. option_and_then (λ v. after_runs runs last v.1) (variable_at f.1)) (bytes_at run bytes)
+
 -- the values of these fields, in order, as far as they are complete in the bytes
 unfoldable pub whole_values : List Field → List ℕ → List FieldValueView
 whole_values [] bytes = []

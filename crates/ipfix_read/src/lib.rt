@@ -34,4 +34,4 @@ pub use message::{FileEvents, Message, read_file};
 pub use progress::{Buffer, Messages, Progress, State};
 pub use record::{Record, RecordList, Records};
 pub use set::Set;
-pub use value::{FieldValue, FieldValues, Values, read_variable};
+pub use value::{FieldValue, FieldValues, Values, skip_runs};

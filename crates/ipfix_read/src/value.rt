@@ -1,6 +1,6 @@
 ghost use Rattle.std.specs.Prelude.{◌≡◌, ℕ, List, Some, map, option_map};
 ghost use Rattle.std.specs.Iterator.{YieldsFirst, item_count};
-ghost use Rattle.ipfix_read.specs.Value.{values_at, variable_at, whole_values};
+ghost use Rattle.ipfix_read.specs.Value.{after_runs, values_at, variable_at, whole_values};
 
 use byteorder::{BigEndian, ByteOrder};
 use ipfix_templates::{Field, Fields};
@@ -112,7 +112,7 @@ impl<'f, 'a> Iterator for Values<'f, 'a> {
 
 /// Reads the value of a variable length at the start of the bytes, and returns it with the bytes after it. Returns
 /// `None` if the input is too short.
-pub fn read_variable(bytes: &[u8]) -> Option<(&[u8], &[u8])>
+fn read_variable(bytes: &[u8]) -> Option<(&[u8], &[u8])>
     ensures { option_map (λ x. (x.0.now, x.1.now)) result ≡ variable_at bytes.now }
 {
     let (first, rest) = bytes.split_first()?;
@@ -125,6 +125,21 @@ pub fn read_variable(bytes: &[u8]) -> Option<(&[u8], &[u8])>
     rest[2..].split_at_checked(usize::from(BigEndian::read_u16(rest)))
 }
 
+/// Skips runs of bytes, each with the value of variable length after it, and a last run. Returns the bytes after them,
+/// or `None` if the input is too short.
+pub fn skip_runs<'a>(runs: &[u32], last: u32, bytes: &'a [u8]) -> Option<&'a [u8]>
+    ensures { option_map (λ rest. rest.now) result ≡ after_runs runs.now last bytes.now }
+{
+    let mut rest = bytes;
+    for run in runs {
+        let (_fixed, following) = rest.split_at_checked(*run as usize)?;
+        let (_value, after) = read_variable(following)?;
+        rest = after;
+    }
+    let (_fixed, after) = rest.split_at_checked(last as usize)?;
+    Some(after)
+}
+
 /// Skips the values of these fields at the start of the bytes, and returns the bytes after them. Returns `None` if the
 /// values are not complete. The fixed lengths between variable fields are skipped together, so each step but the last
 /// takes at least one byte.
@@ -132,12 +147,5 @@ pub fn skip_values<'a>(fields: &Fields, bytes: &'a [u8]) -> Option<&'a [u8]>
     ensures { option_map (λ rest. (whole_values fields.now bytes.now, rest.now)) result
         ≡ values_at fields.now bytes.now }
 {
-    let mut rest = bytes;
-    for run in fields.runs() {
-        let (_fixed, following) = rest.split_at_checked(*run as usize)?;
-        let (_value, after) = read_variable(following)?;
-        rest = after;
-    }
-    let (_fixed, after) = rest.split_at_checked(fields.last_run() as usize)?;
-    Some(after)
+    skip_runs(fields.runs(), fields.last_run(), bytes)
 }
