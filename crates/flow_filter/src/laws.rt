@@ -1,5 +1,5 @@
 //! Laws about conditions.
-ghost use Rattle.std.specs.Prelude.{◌≡◌, ◌++◌, All, IsTrue, List, Option};
+ghost use Rattle.std.specs.Prelude.{◌≡◌, ◌↔◌, ◌++◌, All, IsTrue, List, Option};
 ghost use Rattle.label_lookup.specs.Labelling.{Labelling, label_where};
 ghost use Rattle.flow_rows.specs.Elements.{RowView};
 ghost use Rattle.flow_filter.specs.Condition.{Condition, meets_option, passing, row_passes};
@@ -8,11 +8,8 @@ ghost use Rattle.flow_filter.specs.Condition.{Condition, meets_option, passing, 
 /// those that pass one filter and then the other.
 pub fn options_hold_together()
     ensures each { (condition : Condition) (labels : Option Labelling) (row : RowView) →
-        IsTrue (row_passes condition (label_where labels) row) →
-        All (λ part. IsTrue (meets_option (label_where labels) row part)) condition }
-    ensures all { (condition : Condition) (labels : Option Labelling) (row : RowView) →
-        All (λ part. IsTrue (meets_option (label_where labels) row part)) condition →
-        IsTrue (row_passes condition (label_where labels) row) }
+        IsTrue (row_passes condition (label_where labels) row)
+        ↔ All (λ part. IsTrue (meets_option (label_where labels) row part)) condition }
     ensures together { (one other : Condition) (labels : Option Labelling) (rows : List RowView) →
         passing (one ++ other) labels rows ≡ passing other labels (passing one labels rows) }
 {}

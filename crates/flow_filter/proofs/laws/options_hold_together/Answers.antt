@@ -5,10 +5,8 @@ use Rattle.flow_filter.proofs.Together.{passing-together}
 use Rattle.flow_filter.proofs.laws.options_hold_together.Goals as goal
 
 pub returns-clause-each : goal.returns-clause-each
-returns-clause-each c condition labels row passes = AllPass-from_list_all (meets_option (label_where labels) row) condition passes
-
-pub returns-clause-all : goal.returns-clause-all
-returns-clause-all c condition labels row each = list_all-from_AllPass (meets_option (label_where labels) row) condition each
+returns-clause-each c condition labels row =
+    let meets = meets_option (label_where labels) row in (AllPass-from_list_all meets condition, list_all-from_AllPass meets condition)
 
 pub returns-clause-together : goal.returns-clause-together
 returns-clause-together c one other labels rows = passing-together labels one other rows
