@@ -38,7 +38,7 @@ from support import Case
 
 CRATES, STORED = ROOT / "crates", Path(__file__).with_name("reviewed.txt")
 OUTERMOST = {"flowlabel_main/src/main.rt main", "flowlabel/src/lib.rt program", "flowlabel/src/lib.rt execute",
-             "flowlabel/src/ending.rt end", "flowlabel/src/words.rt parse", "flowlabel/src/run.rt run",
+             "flowlabel/src/ending.rt end", "flowlabel/src/words.rt parse", "flowlabel/src/commands.rt run",
              "flow_many_main/src/main.rt main", "flow_many/src/lib.rt program", "flow_many/src/lib.rt execute",
              "flow_many/src/words.rt parse", "flow_many/src/commands.rt run"}
 # Files whose definitions are stored up to DIVIDER, and those of other files.

@@ -10,7 +10,7 @@ use Rattle.flow_files.specs.Outcomes.{Outcome, Then}
 use Rattle.flowlabel.specs.Output.{IsOutput}
 use Rattle.flow_files.specs.Reports.{AreRead, IsTextWritten, IsReading}
 use Rattle.flowlabel.specs.Printouts.{IsPrintout, IsTextOf, IsWhole}
-use Rattle.flowlabel.specs.declared.run.printout.Printout.{Printout}
+use Rattle.flowlabel.specs.declared.commands.printout.Printout.{Printout}
 use Rattle.flowlabel.specs.Request.{Command}
 use Rattle.flow_files.specs.Sources.{Text}
 use Rattle.flow_files.specs.declared.fault.RunFault.TheVariants.{CannotRead, CannotWrite, File, NoMemory}

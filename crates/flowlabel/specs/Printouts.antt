@@ -28,10 +28,10 @@ use Rattle.flow_files.specs.Sources.{Text}
 use Rattle.flow_files.specs.Readers.{Readers}
 use Rattle.flow_files.specs.declared.fault.RunFault.{RunFault}
 use Rattle.flow_files.specs.declared.labels.LabelsRead.{LabelsRead}
-use Rattle.flowlabel.specs.declared.run.printout.Printout.{Printout}
-use Rattle.flowlabel.specs.declared.run.printout.Printout.TheVariants as printout
-use Rattle.flowlabel.specs.declared.run.info.Counted.{Counted}
-use Rattle.flowlabel.specs.declared.run.rows.Lines.{Lines}
+use Rattle.flowlabel.specs.declared.commands.printout.Printout.{Printout}
+use Rattle.flowlabel.specs.declared.commands.printout.Printout.TheVariants as printout
+use Rattle.flowlabel.specs.declared.commands.info.Counted.{Counted}
+use Rattle.flowlabel.specs.declared.commands.rows.Lines.{Lines}
 use Rattle.flow_files.specs.Reports.{labelling_read, table_read, AreRead}
 
 -- Printouts, and what the parts of commands build them from.

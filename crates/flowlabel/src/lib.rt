@@ -3,8 +3,7 @@
 //!
 //! ```rust
 //! use flow_io::{MemoryInput, MemoryOutput};
-//! use flowlabel::run::run;
-//! use flowlabel::{ByFile, Inputs, Source, parse};
+//! use flowlabel::{ByFile, Inputs, Source, parse, run};
 //! use pmap_model::KeyHashing;
 //!
 //! // Prints the label of an address under a map in memory.
@@ -42,21 +41,24 @@ ghost use Rattle.flowlabel.specs.Ending.{IsEndOf, IsProgram};
 use flow_files::{listed, words_fault};
 use flow_io::Output;
 use pmap_model::KeyHashing;
-use run::run;
 use std::alloc::Global;
 use std::convert::AsStr;
 use std::env;
 use std::io::ErrorKind;
 
 mod command;
+mod commands;
 mod definition;
 mod ending;
 mod fault;
 mod inputs;
-pub mod run;
 mod words;
 
 pub use command::{Command, Shrunk};
+pub use commands::{
+    one_output, output_is_same_under_equivalent_labels, output_keeps_headline,
+    output_of_joined_file, run, shrunk_list_is_least, shrunk_list_keeps_reports,
+};
 pub use ending::end;
 pub use fault::fault_line;
 pub use flow_files::{
