@@ -1,4 +1,4 @@
-use Rattle.std.specs.Prelude.{ℕ, List, [], Option, None, Bool, false, ◌++◌}
+use Rattle.std.specs.Prelude.{ℕ, List, [], Option, None, Bool, false}
 use Rattle.flow_io.specs.Devices.{InputView, OutputView}
 use Rattle.flow_io.specs.declared.devices.LastCall.{LastCall}
 use Rattle.flow_io.specs.declared.devices.LastCall.TheVariants.{FailedFlush, Flush, Nothing}

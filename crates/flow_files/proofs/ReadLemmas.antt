@@ -8,7 +8,6 @@ use Rattle.std.specs.Prelude.{◌++◌, ◌==◌, length, unwrap_or, ⊤, is_som
 use Rattle.std.specs.Io.KnownBytes.{Consumes}
 use Rattle.std.specs.Borrow.{Bor}
 use Rattle.std.specs.Result.{IsErrAnd, result_map_both}
-use Rattle.std.specs.Global.{Vec}
 use Rattle.std.proofs.lemmas.List.{append-nil}
 use Rattle.flow_io.specs.Devices.{InputView, Gives as GivesBytes, ReadsInput, has_ended}
 use Rattle.flow_io.proofs.Moving.{gives_more, gives_none}
@@ -17,7 +16,7 @@ use Rattle.ipfix_templates.specs.InForce.{no_templates}
 use Rattle.ipfix_read.proofs.Readings.{placed_are_messages}
 use Rattle.ipfix_read.specs.Messages.{StopsReading, file_reading, messages_in, placed_messages}
 use Rattle.ipfix_read.specs.declared.fault.ReadFault.{ReadFault}
-use Rattle.label_lookup.specs.Labelling.{Labelling, StretchModel, labelling_of_list, labelling_of_map, labelling_of_stretches}
+use Rattle.label_lookup.specs.Labelling.{Labelling, StretchModel, labelling_of_stretches}
 use Rattle.pmap_model.specs.ListModel.{ListModel}
 use Rattle.pmap_model.specs.MapModel.{MapModel}
 use Rattle.pmap_model.specs.MapText.{map_of}
@@ -36,7 +35,7 @@ use Rattle.flow_files.specs.Outcomes.{BytesFault, Outcome, Then, labels_reading,
 use Rattle.flow_files.specs.Reports.{AreFresh, AreLabelsOf, AreRead, AreTextsBefore, Decodes, Gives, GivesAll, IsRead, IsReading, IsText, ReadsInto, faults_of, labelling_found, labelling_read}
 use Rattle.flow_files.specs.declared.labels.LabelsRead.{LabelsRead}
 use Rattle.flow_files.specs.declared.label_file.LabelFile.{LabelFile}
-use Rattle.flow_files.specs.declared.label_file.LabelFile.TheVariants.{Map, List as Prefixes}
+use Rattle.flow_files.specs.declared.label_file.LabelFile.TheVariants.{Map}
 use Rattle.flow_files.specs.Sources.{Text}
 use Rattle.flow_files.specs.Readers.{AreReadOn, AreTexts, AreUnread, IsFaultFor, IsFaultOf, MayHave, CannotRead, File, NoMemory, Readers, RunFault, Source, any_failed, name_in, view_of}
 

@@ -1,19 +1,15 @@
 use Rattle.std.specs.Prelude.{◌≡◌, ⊤, ◌≤◌, ◌<◌, ◌*◌, ◌++◌, ◌∷◌, [], List, ℕ, Option, Some}
 use Rattle.std.specs.Prelude.{None, is_some, Result, Ok, Err, false, true, length, option_map}
 use Rattle.std.specs.Borrow.{Bor}
-use Rattle.std.specs.Global.{Vec}
-use Rattle.std.specs.Result.{result_map_both}
 use Rattle.flow_io.specs.Devices.{InputView, OutputView, ReadsInput, StopsWriting, WritesWhole}
 use Rattle.pmap_model.specs.MapText.{map_of}
 use Rattle.pmap_model.specs.PrefixList.{list_of}
 use Rattle.pmap_model.specs.MapModel.{Label}
-use Rattle.pmap_model.specs.Steps.{◌>>=◌}
-use Rattle.pmap_text.specs.Reading.{map_reading, list_reading}
 use Rattle.label_lookup.specs.Labelling.{Labelling, StretchModel, label_where, labelling_of_list}
 use Rattle.label_lookup.specs.Labelling.{labelling_of_map, labelling_of_stretches}
 use Rattle.ipfix_read.specs.Fault.{is_of_reader}
 use Rattle.ipfix_templates.specs.InForce.{no_templates}
-use Rattle.ipfix_read.specs.Messages.{IsReadTo, ProgressView, StopsReading, file_reading, placed_messages}
+use Rattle.ipfix_read.specs.Messages.{IsReadTo, ProgressView, StopsReading, placed_messages}
 use Rattle.ipfix_read.specs.declared.progress.State.TheVariants.{Going}
 use Rattle.ipfix_read.specs.declared.fault.ReadFault.{ReadFault}
 use Rattle.ipfix_read.specs.Message.{MessageView}
@@ -22,7 +18,7 @@ use Rattle.flow_rows.specs.Elements.{RowView}
 use Rattle.flow_filter.specs.Condition.{Condition, passing}
 use Rattle.flow_uniq.specs.Groups.{GroupsModel, groups_of, record_count}
 use Rattle.flow_files.specs.ByFile.{ByFile, Role, at, turn}
-use Rattle.flow_files.specs.declared.bytes_fault.BytesFault.TheVariants.{Flows as InFlows, List as InList, Map as InMap}
+use Rattle.flow_files.specs.declared.bytes_fault.BytesFault.TheVariants.{Flows as InFlows}
 use Rattle.flow_files.specs.Outcomes.{BytesFault, Outcome, labels_reading}
 use Rattle.flow_files.specs.Outcomes.{report_reading, source_reading, with_bytes_fault}
 use Rattle.flow_files.specs.declared.label_file.LabelFile.{LabelFile}

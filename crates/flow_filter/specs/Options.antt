@@ -1,4 +1,4 @@
-use Rattle.std.specs.Prelude.{ℕ, Bool, not, true, false, List, codes}
+use Rattle.std.specs.Prelude.{ℕ, Bool, true, false, List, codes}
 pub use Rattle.flow_filter.specs.declared.fault.FilterFaultKind.{FilterFaultKind}
 pub use Rattle.flow_filter.specs.declared.fault.FilterFaultKind.TheVariants.{BadBlock, BadNumberList}
 pub use Rattle.flow_filter.specs.declared.fault.FilterFaultKind.TheVariants.{BadRange, NoMemory}

@@ -8,7 +8,7 @@ use Rattle.std.proofs.lemmas.List.{map-append}
 use Rattle.std.proofs.lemmas.List.Elements.{All-cons, All-map, All-nil, All-weaker}
 use Rattle.std.proofs.lemmas.List.Folds.{flat_map-map, list_any-append}
 use Rattle.ipfix_templates.specs.InForce.{no_templates}
-use Rattle.ipfix_read.specs.Laws.{File, PlacedAreMessages}
+use Rattle.ipfix_read.specs.Laws.{PlacedAreMessages}
 use Rattle.ipfix_read.specs.Message.{MessageView}
 use Rattle.ipfix_read.specs.Messages.{file_reading, messages_in, placed_messages}
 use Rattle.ipfix_read.specs.declared.fault.ReadFault.{ReadFault}
@@ -22,7 +22,7 @@ use Rattle.flow_files.specs.declared.bytes_fault.BytesFault.{BytesFault}
 use Rattle.flow_files.specs.declared.bytes_fault.BytesFault.TheVariants.{Flows as InFlows, Sum as InSum}
 use Rattle.flow_files.specs.declared.bytes_fault.SumFaultKind.TheVariants.{SkippedSet, StartTooLate, TooManyRows}
 use Rattle.flow_many.specs.Files.{Placed, Refusal, files_from, first_refusal, of_file, one_reading}
-use Rattle.flow_many.specs.Output.{all_messages, has_skipped, refusal_by, refused}
+use Rattle.flow_many.specs.Output.{all_messages, has_skipped, refusal_by}
 use Rattle.flow_many.proofs.FilesLemmas.{file_ok, first_ok, later_ok}
 
 -- bytes without a fault, and messages none of which is refused

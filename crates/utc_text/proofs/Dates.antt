@@ -1,5 +1,5 @@
 -- The date of a day, counted by years and months, is that of jiff's calendar.
-use Rattle.std.proofs.Common.{◌≡◌, ℕ, zero, suc, ◌+◌, ◌-◌, ◌/◌, ◌%◌, ◌<◌, ◌≤◌, ℤ, pos, negsuc, ◌+ℤ◌, ◌<ℤ◌, ◌≤ℤ◌, if◌then◌else◌, true, List, ◌++◌, ◌∷◌, [], refl, sym, ap, subst, ◌∙◌, arith, le-ltb, lt-ltb, nat_lt}
+use Rattle.std.proofs.Common.{◌≡◌, ℕ, zero, suc, ◌+◌, ◌-◌, ◌/◌, ◌%◌, ◌<◌, ◌≤◌, ℤ, pos, negsuc, ◌≤ℤ◌, if◌then◌else◌, List, ◌++◌, ◌∷◌, [], refl, sym, ap, subst, ◌∙◌, arith, le-ltb, lt-ltb}
 use Rattle.std.proofs.lemmas.Int.{by_lt_z}
 use Rattle.jiff_core.specs.declared.civil.date.Date.{Date as Day}
 use Rattle.jiff_core.specs.Calendar.{IsCivilDate, day_count, days_in_month, days_in_year}

@@ -1,4 +1,4 @@
-use Rattle.std.proofs.Common.{◌≡◌, ◌+◌, ◌+ℤ◌, ◌++◌, List, ℕ, Some, None, if◌then◌else◌, pos, arith, sym, ap, ◌∙◌, le-ltb}
+use Rattle.std.proofs.Common.{◌≡◌, ◌+◌, ◌+ℤ◌, ◌++◌, Some, None, if◌then◌else◌, pos, arith, sym, ap, ◌∙◌, le-ltb}
 use Rattle.jiff_core.specs.Date.{epoch_day}
 use Rattle.jiff_core.proofs.SignedLemmas.{signed_arith}
 use Rattle.utc_text.specs.Texts.{date_text}

@@ -1,6 +1,5 @@
-use Rattle.std.proofs.Common.{List, ℕ, ◌≡◌, ◌∙◌, ap, refl, sym, true}
+use Rattle.std.proofs.Common.{List, ℕ, ◌≡◌, ap, refl, true}
 use Rattle.pmap_model.specs.MapText.{map_of}
-use Rattle.pmap_text.specs.Reading.{map_reading}
 use Rattle.flow_files.specs.BytesFault.{is_out_of_memory}
 use Rattle.flow_files.specs.Outcomes.{with_bytes_fault}
 use Rattle.flow_files.specs.declared.bytes_fault.BytesFault.TheVariants.{Map as InMap}

@@ -1,4 +1,4 @@
-use Rattle.std.proofs.Common.{List, ℕ, ap, ◌∙◌, ◌≡◌, ◌<◌, ◌++◌, drop, length, rules, take, sym, subst}
+use Rattle.std.proofs.Common.{List, ℕ, ap, ◌∙◌, ◌≡◌, ◌++◌, drop, length, rules, take, sym, subst}
 use Rattle.std.proofs.Math.Seq.{take-append_seam}
 use Rattle.flow_io.proofs.Moving.{gives_more}
 use Rattle.flow_io.specs.Devices.{Gives}

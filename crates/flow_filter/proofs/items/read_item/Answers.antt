@@ -1,4 +1,4 @@
-use Rattle.std.proofs.Common.{◌≡◌, ◌∙◌, ℕ, Option, Some, None, inl, inr, ap}
+use Rattle.std.proofs.Common.{◌≡◌, ◌∙◌, Option, Some, None, inl, inr, ap}
 use Rattle.std.specs.Prelude.{ok_or, option_map}
 use Rattle.std.specs.Result.{result_map_both}
 use Rattle.flow_filter.specs.Condition.{Range, RowTest}

@@ -1,4 +1,4 @@
-use Rattle.std.proofs.Common.{◌≡◌, ◌∙◌, ◌^◌, ℕ, Bool, List, ◌∷◌, Option, None, Some, Result, Ok, Err, ap, map, refl, subst, sym}
+use Rattle.std.proofs.Common.{◌≡◌, ◌∙◌, ◌^◌, ℕ, List, Option, None, Some, Result, Ok, Err, ap, map, refl, subst, sym}
 use Rattle.std.specs.Prelude.{is_some, length, slice_index_or}
 use Rattle.std.specs.Option.{option_map_or}
 use Rattle.pmap_model.specs.ListModel.{ListModel}
@@ -17,13 +17,12 @@ use Rattle.flow_rows.specs.Counts.{rows_of_messages}
 use Rattle.flow_rows.specs.Elements.{RowView}
 use Rattle.flow_filter.specs.Condition.{passing}
 use Rattle.pmap_print.specs.Reports.{info_text, title_line}
-use Rattle.pmap_print.specs.Table.{table_text}
-use Rattle.flowlabel.specs.Headline.{GivesLabels, PrintsList, PrintsRows}
+use Rattle.flowlabel.specs.Headline.{GivesLabels, PrintsList}
 use Rattle.flow_files.specs.declared.bytes_fault.BytesFault.{BytesFault}
 use Rattle.flow_files.specs.declared.bytes_fault.BytesFault.TheVariants.{Map as InMap, List as InList, Certificate as InCertificate, Check as InCheck}
 use Rattle.flow_files.specs.Groups.{PrintsGroups, row_columns}
 use Rattle.flow_files.specs.Outcomes.{Outcome, Prints, labels_reading, report_reading}
-use Rattle.flowlabel.specs.Output.{IsOutput, check_reading, label_text, labelled_row_lines, minimal_text}
+use Rattle.flowlabel.specs.Output.{IsOutput, check_reading, label_text, minimal_text}
 use Rattle.flow_files.proofs.ReadLemmas.{certificate_in, flows_in, list_in, map_in}
 use Rattle.flowlabel.proofs.Outcomes.{keep_over, mapped_ok, printed_of, read_then, unwrapped}
 use Rattle.flow_files.specs.declared.by_file.ByFile.{ByFile}
