@@ -1,11 +1,13 @@
 -- The open statements, as the stretches grow.
-use Rattle.std.proofs.Common.{◌≡◌, ◌∙◌, ℕ, ◌+◌, ◌<◌, ◌≤◌, inl, inr, List, Option, Some, Contains, length, slice_get, sym, ap, subst, arith}
+use Rattle.std.proofs.Common.{◌≡◌, ◌∙◌, ℕ, ◌+◌, ◌<◌, ◌≤◌, inl, inr, List, Option, Some, Contains, length, max, slice_get, sym, ap, subst, arith}
 use Rattle.std.specs.Option.{ForSome}
 use Rattle.std.proofs.lemmas.Bool.{cases_lt}
 use Rattle.std.proofs.lemmas.Option.{same_Some, slice_get_within}
 use Rattle.pmap_model.specs.declared.statement.Statement.{Statement}
-use Rattle.pmap_stretches.specs.Sweep.{AreOpen, BeginAfter, HasOneMore, IsGreatest, IsWinner}
+use Rattle.pmap_stretches.specs.Sweep.{AreOpen, AreStretchesTo, BeginAfter, Continues, HasOneMore, IsGreatest, IsWinner, statement_won}
 use Rattle.pmap_stretches.specs.Starting.{IsOrder, Start, number_at}
+use Rattle.pmap_stretches.specs.declared.stretches.ascent.Ascent.{Ascent}
+use Rattle.pmap_stretches.specs.declared.stretches.growing.Growing.{Growing}
 
 -- if a statement begins after an address, so do all later ones
 pub begin_later : (ss : List Statement) (starts : List Start) (next last : ℕ) (e : Statement) → IsOrder ss starts
@@ -16,12 +18,11 @@ module _ (ss : List Statement) (starts : List Start) (order : IsOrder ss starts)
     (are : AreOpen ss starts next first opened) where
   -- the greatest open statement wins up to its end, if no other begins before
   pub top_wins : (last : ℕ) (top : Option ℕ) → IsGreatest opened top → BeginAfter ss starts next last
-      → ((j : ℕ) (s : Statement) → top ≡ Some j → slice_get ss j ≡ Some s → last ≤ s.span.high.value) → (a : ℕ) → first ≤ a → a ≤ last
-      → IsWinner ss a top
+      → ForSome (statement_won ss top) (λ s. last ≤ s.span.high.value) → (a : ℕ) → first ≤ a → a ≤ last → IsWinner ss a top
   top_wins last top greatest later reaches a from to = record {
     covers = λ j is.
         let begun = are.begun j (greatest.listed j is) in
-        record { statement = begun.0; listed = begun.1; low = omega (arith, begun.2, from); high = omega (arith, reaches j begun.0 is begun.1, to) };
+        record { statement = begun.0; listed = begun.1; low = omega (arith, begun.2, from); high = omega (arith, reaches begun.0 (ap (statement_won ss) is ∙ begun.1), to) };
     most = λ j covers.
         let place = order.every j (slice_get_within ss j covers.statement covers.listed) in
         let here = ap (slice_get ss) place.2 ∙ covers.listed in
@@ -68,3 +69,27 @@ module _ (ss : List Statement) (starts : List Start) (order : IsOrder ss starts)
       | inr late ↦ subst (λ (k : ℕ). Contains opened' (number_at starts k)) (let same : next ≡ i = omega (arith, less, late) in same) one.has_number
     ];
   }
+
+-- the stretches were extended to an address up to which the greatest open statement wins
+pub extended : {ss : List Statement} {old self : Ascent} {growing : Growing} {opened : List ℕ} {top : Option ℕ} (last : ℕ) → Continues ss old self
+    → IsGreatest self.opened top → BeginAfter ss old.starts old.next last → ForSome (statement_won ss top) (λ s. last ≤ s.span.high.value)
+    → (AreStretchesTo ss self.default self.growing → ((a : ℕ) → self.growing.last + 1 ≤ a → a ≤ last → IsWinner ss a top) → AreStretchesTo ss self.default growing)
+    → growing.last ≡ max self.growing.last last → growing.stretches.version ≡ self.growing.stretches.version → growing.joined ≡ self.growing.joined
+    → (AreOpen ss self.starts self.next (growing.last + 1) self.opened → AreOpen ss self.starts self.next (growing.last + 1) opened)
+    → Continues ss old (record self { growing = growing; opened = opened })
+extended {ss = ss} {self = self} {growing = growing} {top = top} last before greatest later reaches are last_is version joined opens =
+    let order = before.ascent.order in
+    let first = self.growing.last + 1 in
+    let later' : BeginAfter ss self.starts self.next last = rw (before.starts, before.next) later in
+    record {
+      ascent = record {
+        are = are before.ascent.are (top_wins ss self.starts order self.next first self.opened before.ascent.opened last top greatest later' reaches);
+        order = order;
+        opened = opens (open_on ss self.starts order self.next first self.opened before.ascent.opened (growing.last + 1) (omega (arith, last_is)));
+      };
+      version = version ∙ before.version;
+      joined = joined ∙ before.joined;
+      default = before.default;
+      starts = before.starts;
+      next = before.next;
+    }

@@ -23,7 +23,7 @@ returns-clause-ascent g c =
     let begun = c.in_ok-next.ensures in
     record {
       are = c.in_ok-growing.ensures.are ss c.args.default c.label_won-label.ensures
-          (top_wins ss starts order next 0 opened begun.opened 0 c.greatest-won.result c.greatest-won.ensures begun.later (λ j s is at. omega arith));
+          (top_wins ss starts order next 0 opened begun.opened 0 c.greatest-won.result c.greatest-won.ensures begun.later (λ s is. omega arith));
       order = order;
       opened = open_on ss starts order next 0 opened begun.opened (c.in_ok-growing.growing.last + 1) (omega arith);
     }
