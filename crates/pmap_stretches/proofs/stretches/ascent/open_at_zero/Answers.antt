@@ -5,16 +5,11 @@ use Rattle.pmap_stretches.proofs.stretches.ascent.open_at_zero.Goals as goal
 
 pub returns-then-mapping-ne0-clause-later : goal.returns-then-mapping-ne0-clause-later
 returns-then-mapping-ne0-clause-later g c =
-    let ss = g.M.Mappings.all c.args.mappings.now in
-    begin_later ss c.args.starts.now c.loop-place.place 0 c.mapping.result c.requires.order
-    (ap (slice_get ss) (sym c.number-number.ensures) ∙ c.mapping.ensures) (omega (arith, c.if-mapping-ne0.true))
+    begin_later c.loop-place.place 0 c.requires.order (ap (slice_get (g.M.Mappings.all c.args.mappings.now)) (sym c.number-number.ensures) ∙ c.mapping.ensures)
+    (omega (arith, c.if-mapping-ne0.true))
 
 pub loop-place-preserved : goal.loop-place-preserved
 loop-place-preserved g c =
-    let ss = g.M.Mappings.all c.args.mappings.now in
-    let starts = c.args.starts.now in
-    let place = c.loop-place.place in
     let number = c.number-number.ensures in
-    open_pushed ss starts c.requires.order place 0 c.loop-place.opened c.loop-place.invariant c.push.new.self c.mapping.result
-    (subst (λ n. HasOneMore c.loop-place.opened n c.push.new.self) number c.in_ok-push.ensures)
-    (ap (slice_get ss) (sym number) ∙ c.mapping.ensures) (omega (arith, c.if-mapping-ne0.false))
+    open_pushed c.loop-place.invariant c.mapping.result (subst (λ n. HasOneMore c.loop-place.opened n c.push.new.self) number c.in_ok-push.ensures)
+    (ap (slice_get (g.M.Mappings.all c.args.mappings.now)) (sym number) ∙ c.mapping.ensures) (omega (arith, c.if-mapping-ne0.false))

@@ -1,4 +1,4 @@
-use Rattle.std.proofs.Common.{◌≡◌, ◌∙◌, ◌+◌, ◌-◌, ap, arith, slice_get, subst, sym}
+use Rattle.std.proofs.Common.{◌≡◌, ◌∙◌, ◌-◌, ap, arith, slice_get, subst, sym}
 use Rattle.pmap_stretches.specs.Sweep.{BeginAfter, HasOneMore}
 use Rattle.pmap_stretches.specs.Starting.{number_at}
 use Rattle.pmap_stretches.proofs.Ascents.{begin_later, open_pushed}
@@ -6,17 +6,15 @@ use Rattle.pmap_stretches.proofs.stretches.ascent.Ascent.open_all.Goals as goal
 
 pub returns-then-end-low-clause-later : goal.returns-then-end-low-clause-later
 returns-then-end-low-clause-later g c =
-    let ss = g.M.Mappings.all c.args.mappings.now in
-    begin_later ss c.loop-self.self.starts c.loop-self.self.next c.args.end c.mapping-low.result c.loop-self.invariant.ascent.order
-    (ap (slice_get ss) (sym c.number-number.ensures) ∙ c.mapping-low.ensures) c.if-end-low.true
+    begin_later c.loop-self.self.next c.args.end c.loop-self.invariant.ascent.order
+    (ap (slice_get (g.M.Mappings.all c.args.mappings.now)) (sym c.number-number.ensures) ∙ c.mapping-low.ensures) c.if-end-low.true
 
 pub reach-requires-clause-later : goal.reach-requires-clause-later
 reach-requires-clause-later g c =
-    let ss = g.M.Mappings.all c.args.mappings.now in
-    let self = c.loop-self.self in
-    let listed = ap (slice_get ss) (sym c.number-number.ensures) ∙ c.mapping-low.ensures in
-    let above = c.loop-self.invariant.later self.next c.mapping-low.result (omega arith) (omega (arith, c.loop-self-test.true, c.count.ensures)) listed in
-    begin_later ss self.starts self.next (c.mapping-low.result.span.low.value - 1) c.mapping-low.result c.loop-self.invariant.ascent.order listed (omega (arith, above))
+    let next = c.loop-self.self.next in
+    let listed = ap (slice_get (g.M.Mappings.all c.args.mappings.now)) (sym c.number-number.ensures) ∙ c.mapping-low.ensures in
+    let above = c.loop-self.invariant.later next c.mapping-low.result (omega arith) (omega (arith, c.loop-self-test.true, c.count.ensures)) listed in
+    begin_later next (c.mapping-low.result.span.low.value - 1) c.loop-self.invariant.ascent.order listed (omega (arith, above))
 
 pub loop-self-preserved : goal.loop-self-preserved
 loop-self-preserved g c =
@@ -35,12 +33,12 @@ loop-self-preserved g c =
     let above = before.later old.next mapping (omega arith) (omega (arith, c.loop-self-test.true, c.count.ensures))
     (ap (slice_get ss) (sym c.number-number.ensures) ∙ c.mapping-low.ensures) in
     let order = reached.continues.ascent.order in
-    let later : BeginAfter ss self.starts self.next self.growing.last = begin_later ss self.starts self.next self.growing.last mapping order listed (omega (arith, reached.last, above)) in
+    let later : BeginAfter ss self.starts self.next self.growing.last = begin_later self.next self.growing.last order listed (omega (arith, reached.last, above)) in
     record {
       ascent = record {
         are = reached.continues.ascent.are;
         order = order;
-        opened = open_pushed ss self.starts order self.next (self.growing.last + 1) self.opened reached.continues.ascent.opened c.push.new.self mapping
+        opened = open_pushed reached.continues.ascent.opened mapping
             (subst (λ n. HasOneMore self.opened n c.push.new.self) (sym number) c.in_ok-push.ensures)
             listed (omega (arith, reached.last, above));
       };
