@@ -13,29 +13,19 @@ same_version m inside v view same = same ∙ sym (ap (λ (x : StretchModel). x.s
 fits_version : (v w : Version) (a : ℕ) → v ≡ w → a < 2 ^ width_of v → a < 2 ^ width_of w
 fits_version v w a same fits = rw (← same) fits
 
-pub find-index-requires-clause-order : goal.find-index-requires-clause-order
-find-index-requires-clause-order c =
+pub find-index-requires : goal.find-index-requires
+find-index-requires c =
+    let s = c.self.inside.stretches in
+    let tops = c.self.inside.tops.items in
     let same = same_version c.args.self.now _ c.args.addr.version c.self.view_is c.requires in
-    read_order c.self.inside.stretches c.laws.ensures.every c.self.inside.tops.items c.self.invariant c.args.addr.value
-    (fits_version _ _ _ same c.args.addr.in_range) c.width.result _ _ (c.width.ensures ∙ ap width_of same) c.index-from.ensures c.index-to.ensures
-
-pub find-index-requires-clause-index : goal.find-index-requires-clause-index
-find-index-requires-clause-index c =
-    let same = same_version c.args.self.now _ c.args.addr.version c.self.view_is c.requires in
-    read_below c.self.inside.stretches c.laws.ensures.every c.self.inside.tops.items c.self.invariant c.args.addr.value
-    (fits_version _ _ _ same c.args.addr.in_range) c.width.result _ _ (c.width.ensures ∙ ap width_of same) c.index-from.ensures c.index-to.ensures
-
-pub find-index-requires-clause-above : goal.find-index-requires-clause-above
-find-index-requires-clause-above c =
-    let same = same_version c.args.self.now _ c.args.addr.version c.self.view_is c.requires in
-    read_begins c.self.inside.stretches c.laws.ensures.every c.self.inside.tops.items c.self.invariant c.args.addr.value
-    (fits_version _ _ _ same c.args.addr.in_range) c.width.result _ _ (c.width.ensures ∙ ap width_of same) c.index-from.ensures c.index-to.ensures
-
-pub find-index-requires-clause-below : goal.find-index-requires-clause-below
-find-index-requires-clause-below c =
-    let same = same_version c.args.self.now _ c.args.addr.version c.self.view_is c.requires in
-    read_ends c.self.inside.stretches c.laws.ensures.every c.self.inside.tops.items c.self.invariant c.args.addr.value
-    (fits_version _ _ _ same c.args.addr.in_range) c.width.result _ _ (c.width.ensures ∙ ap width_of same) c.index-from.ensures c.index-to.ensures
+    let fits = fits_version _ _ _ same c.args.addr.in_range in
+    let width = c.width.ensures ∙ ap width_of same in
+    record {
+      order = read_order s c.laws.ensures.every tops c.self.invariant c.args.addr.value fits c.width.result _ _ width c.index-from.ensures c.index-to.ensures;
+      index = read_below s c.laws.ensures.every tops c.self.invariant c.args.addr.value fits c.width.result _ _ width c.index-from.ensures c.index-to.ensures;
+      above = read_begins s c.laws.ensures.every tops c.self.invariant c.args.addr.value fits c.width.result _ _ width c.index-from.ensures c.index-to.ensures;
+      below = read_ends s c.laws.ensures.every tops c.self.invariant c.args.addr.value fits c.width.result _ _ width c.index-from.ensures c.index-to.ensures;
+    }
 
 pub returns-clause-value : goal.returns-clause-value
 returns-clause-value c =
