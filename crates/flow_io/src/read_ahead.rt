@@ -27,7 +27,8 @@ pub struct ReadAhead<R: Input> {
 
 impl<R: Input> ReadAhead<R> {
     ghost use Rattle.std.specs.Prelude.{◌-◌, length, min, take};
-    ghost use Rattle.flow_io.specs.Ahead.{bytes_ahead};
+    ghost use Rattle.flow_io.specs.Ahead.{bytes_ahead, input_ahead};
+    ghost use Rattle.flow_io.specs.Devices.{FailsOnErr, GivesCount, finds_end, has_ended};
 
     /// Wraps `inner`, of which nothing was read.
     pub fn new(alloc: Global, inner: R) -> Result<Self, AllocError>
@@ -65,6 +66,31 @@ impl<R: Input> ReadAhead<R> {
         self.returned.note(&buffer[..count]);
         count
     }
+
+    // Reads when no byte is ahead. The inner reader is asked for as many bytes as fit.
+    #[inline(never)]
+    fn read_on(&mut self, buffer: &mut [u8]) -> Result<usize, DeviceFault>
+        requires { self.old.start ≡ self.old.end }
+        ensures within { IfOk result (λ count. count ≤ length buffer.new) }
+        ensures read { GivesCount (input_ahead R.Input self.old) (input_ahead R.Input self.new) result buffer.new }
+        ensures end { has_ended (input_ahead R.Input self.new) ≡ finds_end result buffer.new }
+        ensures fails { FailsOnErr (input_ahead R.Input self.old).failed (input_ahead R.Input self.new).failed result }
+    {
+        self.ended = false;
+        if buffer.len() >= CAPACITY {
+            // The buffer has room for all that would be read ahead.
+            let count = self.inner.read(buffer)?;
+            self.ended = count == 0;
+            self.returned.note(&buffer[..count]);
+            return Ok(count);
+        }
+        self.start = 0;
+        self.end = 0;
+        self.end = self.inner.read(self.buffer.as_mut_slice())?;
+        let count = self.take(buffer);
+        self.ended = count == 0 && !buffer.is_empty();
+        Ok(count)
+    }
 }
 
 impl<R: Input> Input for ReadAhead<R> {
@@ -72,23 +98,14 @@ impl<R: Input> Input for ReadAhead<R> {
 
     ghost input = { input_ahead R.Input };
 
+    // Most reads only move bytes that are ahead. This part is inlined.
+    #[inline(always)]
     fn read(&mut self, buffer: &mut [u8]) -> Result<usize, DeviceFault> {
-        self.ended = false;
         if self.start == self.end {
-            if buffer.len() >= CAPACITY {
-                // The buffer has room for all that would be read ahead.
-                let count = self.inner.read(buffer)?;
-                self.ended = count == 0;
-                self.returned.note(&buffer[..count]);
-                return Ok(count);
-            }
-            self.start = 0;
-            self.end = 0;
-            self.end = self.inner.read(self.buffer.as_mut_slice())?;
+            return self.read_on(buffer);
         }
-        let count = self.take(buffer);
-        self.ended = count == 0 && !buffer.is_empty();
-        Ok(count)
+        self.ended = false;
+        Ok(self.take(buffer))
     }
 
     fn failed(&self) -> bool {
