@@ -93,7 +93,15 @@ pub fn whole_message<'a>(
         (whole_reading (template_at table.old) base bytes.now) result }
 {
     let domain = BigEndian::read_u32(&bytes[12..]);
-    let sets = read_sets(alloc, table, domain, &bytes[MESSAGE_HEADER..], base + 16)?;
+    let mut sets = Items::with_room(alloc)?;
+    read_sets(
+        alloc,
+        &mut sets,
+        table,
+        domain,
+        &bytes[MESSAGE_HEADER..],
+        base + 16,
+    )?;
     Ok(Message {
         export_time: BigEndian::read_u32(&bytes[4..]),
         sequence: BigEndian::read_u32(&bytes[8..]),

@@ -1,4 +1,4 @@
-ghost use Rattle.std.specs.Prelude.{◌≡◌, ◌^◌, ◌+◌, ◌<◌, ◌≤◌, fold, length, IfOk, OnOk};
+ghost use Rattle.std.specs.Prelude.{◌≡◌, ◌^◌, ◌+◌, ◌<◌, ◌≤◌, [], fold, length, IfOk, OnOk};
 ghost use Rattle.std.specs.Result.{result_map_both};
 ghost use Rattle.ipfix_templates.specs.InForce.{after_event, template_at};
 ghost use Rattle.ipfix_read.specs.Set.{after_set, content_reading, set_next, sets_reading, template_kind, ReadsUnder};
@@ -125,21 +125,25 @@ fn read_set<'a>(
     Ok((set, after))
 }
 
-/// Reads the sets of a message from the bytes after its header. `base` is the offset of these bytes in the File. The
-/// events of template sets change the table. After a fault the table may have changed by some of them.
+/// Reads the sets of a message from the bytes after its header into a list, which is empty at first. `base` is the
+/// offset of these bytes in the File. The events of template sets change the table. After a fault the list may have the
+/// sets before it, and the table may have changed by some events. The list isn't the result, since a result that
+/// holds a list or a fault is moved in small parts, which is slow.
 pub fn read_sets<'a>(
     alloc: Global,
+    sets: &mut Items<Set<'a>>,
     table: &mut TemplateTable,
     domain: u32,
     bytes: &'a [u8],
     base: u64,
-) -> Result<Items<Set<'a>>, ReadFault>
-    requires { base + length bytes.now < 2 ^ 64 }
+) -> Result<(), ReadFault>
+    requires none { sets.old ≡ [] }
+    requires fits { base + length bytes.now < 2 ^ 64 }
     ensures read { ReadsUnder table.old table.new (λ before sets. fold (after_set domain) before sets)
-        (sets_reading (template_at table.old) domain base bytes.now) result }
-    ensures size { IfOk result (λ sets. message_size sets ≤ length bytes.now) }
+        (sets_reading (template_at table.old) domain base bytes.now)
+        (result_map_both (λ _. sets.new) (λ fault. fault) result) }
+    ensures size { OnOk result (message_size sets.new ≤ length bytes.now) }
 {
-    let mut sets = Items::new(alloc);
     let mut rest = bytes;
     while !rest.is_empty() {
         let offset = base + (bytes.len() - rest.len()) as u64;
@@ -147,5 +151,5 @@ pub fn read_sets<'a>(
         sets.push(set)?;
         rest = after;
     }
-    Ok(sets)
+    Ok(())
 }

@@ -1,7 +1,10 @@
-ghost use Rattle.std.specs.Prelude.{◌≡◌, ◌++◌, ◌∷◌, [], length, OnOk, OnErr};
+ghost use Rattle.std.specs.Prelude.{◌≡◌, ◌++◌, ◌∷◌, [], length, IfOk, OnOk, OnErr};
 
 use std::alloc::{AllocError, Global};
 use std::marker::Model;
+
+// The number of items of a short list.
+const SHORT: usize = 4;
 
 /// A list. Contracts see it as the list of its items.
 #[derive(Drop)]
@@ -25,6 +28,16 @@ impl<T> Items<T> {
         Items {
             items: Vec::new(alloc),
         }
+    }
+
+    /// Returns an empty list with room for four items, so that a short list allocates once and never grows.
+    #[inline(always)]
+    pub fn with_room(alloc: Global) -> Result<Self, AllocError>
+        ensures { IfOk result (λ items. items ≡ []) }
+    {
+        Ok(Items {
+            items: Vec::with_capacity(alloc, SHORT)?,
+        })
     }
 
     /// Returns the number of items.

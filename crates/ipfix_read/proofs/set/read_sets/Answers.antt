@@ -8,7 +8,7 @@ use Rattle.ipfix_read.proofs.Sets.{after_more, fault_kept, sets_end, sets_fault,
 use Rattle.ipfix_read.proofs.set.read_sets.Goals as goal
 
 pub loop-rest-init : goal.loop-rest-init
-loop-rest-init c = rw c.new-sets.ensures (record {
+loop-rest-init c = rw c.requires.none (record {
   within = omega arith;
   read = no_items _ ∙ ap (λ (n : ℕ). after_items [] (sets_reading (template_at c.args.table.now) c.args.domain n c.args.bytes.now)) (omega arith);
   table = refl;
