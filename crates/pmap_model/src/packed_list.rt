@@ -116,10 +116,13 @@ impl<T: Packable> PackedList<T> {
         ensures ok { OnOk result (self.new ≡ self.old ++ item ∷ []) }
         ensures err { OnErr result (self.new ≡ self.old) }
     {
+        // `reserve` and `push_reserved` are inlined, and `push` isn't.
         if item.is_narrow() && self.wide.is_empty() {
-            self.narrow.push(item.narrow())?;
+            self.narrow.reserve(1)?;
+            self.narrow.push_reserved(item.narrow());
         } else {
-            self.wide.push(item.wide())?;
+            self.wide.reserve(1)?;
+            self.wide.push_reserved(item.wide());
         }
         Ok(())
     }
