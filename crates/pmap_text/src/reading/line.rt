@@ -221,6 +221,7 @@ impl Reading {
     }
 
     // Reads `LOW HIGH LABEL`, given the two addresses and the text after them.
+    #[inline(always)]
     fn read_range(
         &mut self,
         form: Form,
