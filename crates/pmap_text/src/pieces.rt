@@ -13,6 +13,17 @@ const PIECE: usize = 65_536;
 // into its heap, where they grow by copies, so a piece isn't larger.
 const ROOM: usize = 131_072;
 
+// The length from which on a text is long, 4 MB. Since each piece takes time to map and to unmap, later pieces are
+// larger. A heap that is larger by such a piece is then little beside the text.
+const LONG: usize = 4_194_304;
+
+// Like `PIECE`, for pieces that end when the text is long, 256 KB.
+const LONG_PIECE: usize = 262_144;
+
+// Like `ROOM`, for pieces that begin when the text is long. These don't grow if 64 KB are added at a time, and if no
+// line is longer than 4 KB.
+const LONG_ROOM: usize = 266_240;
+
 /// A text in pieces, all of which end with a line feed but for the last.
 #[derive(Drop)]
 pub struct Pieces {
@@ -45,6 +56,17 @@ fn end_of_lines(bytes: &[u8]) -> usize
     end
 }
 
+// Returns an empty piece, which follows this number of bytes, with room.
+fn new_piece(alloc: Global, before: usize) -> Result<Vec<u8>, AllocError>
+    ensures { IfOk result (λ piece. piece.items ≡ []) }
+{
+    if before < LONG {
+        Vec::with_capacity(alloc, ROOM)
+    } else {
+        Vec::with_capacity(alloc, LONG_ROOM)
+    }
+}
+
 impl Pieces {
     /// Returns a text without bytes.
     pub fn new(alloc: Global) -> Pieces
@@ -63,7 +85,8 @@ impl Pieces {
         ensures text { IfOk result (λ text. text ≡ self ++ bytes.now) }
         ensures fits { IfOk result (λ text. length text < 2 ^ 64) }
     {
-        if bytes.len() < PIECE && self.last.len() < PIECE - bytes.len() {
+        let least = if self.len < LONG { PIECE } else { LONG_PIECE };
+        if bytes.len() < least && self.last.len() < least - bytes.len() {
             return self.extended(bytes);
         }
         let end = end_of_lines(bytes);
@@ -117,7 +140,7 @@ impl Pieces {
             alloc,
             len,
             ended,
-            last: Vec::with_capacity(alloc, ROOM)?,
+            last: new_piece(alloc, len)?,
         })
     }
 

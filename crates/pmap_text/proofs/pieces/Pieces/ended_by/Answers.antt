@@ -8,7 +8,7 @@ use Rattle.pmap_text.proofs.pieces.Pieces.ended_by.Goals as goal
 
 pub returns : goal.returns
 returns c =
-    ap (text_in c.push.new.self.items) c.in_ok-with_capacity.ensures.items
+    ap (text_in c.push.new.self.items) c.in_ok-new_piece.ensures
     ∙ ap (λ (ps : List (Vec ℕ)). text_in ps []) c.in_ok-push.ensures.items
     ∙ text_in-end c.self.inside.ended.items c.extend_from_slice.new.self []
     ∙ ap (text_in c.self.inside.ended.items) (append-nil c.extend_from_slice.new.self.items ∙ c.in_ok-extend_from_slice.ensures.items)
