@@ -11,8 +11,8 @@ ghost use Rattle.pmap_cert.specs.FormatReading.{format_reading};
 ghost use Rattle.prefix_keys.specs.declared.version.Version.TheVariants.{V4, V6};
 ghost use Rattle.std.specs.Prelude.{◌≡◌, ◌∷◌, [], codes, false, Ok, replicate, true};
 
-/// FORMATS.md, "Certificates" and "Chains".
-pub fn a_text_represents_a_certificate()
+/// FORMATS.md, "Certificates" and "Chains": the certificates that the page shows.
+pub fn texts_of_the_page_represent_certificates()
     ensures the_first_of_the_page { format_reading quarters
         ≡ Ok (record {
           format = 1;
@@ -32,12 +32,29 @@ pub fn a_text_represents_a_certificate()
           root = (ChainNode (record { cost = 1; labels = codes "D" ∷ [] }) (replicate 32 true) (codes "D")
               (LeafNode (codes "X")));
         }) }
+{}
+
+/// FORMATS.md, "Certificates": the format, the IP version and the labels of a certificate with a single leaf.
+pub fn a_text_of_one_leaf_represents_a_certificate()
     ensures one_leaf { format_reading (codes "flowlabel-cert 1 ipv4 1\nA\nl 0\n")
         ≡ Ok (record { format = 1; version = V4; table = codes "A" ∷ []; root = (LeafNode (codes "A")) }) }
     ensures of_ipv6 { format_reading (codes "flowlabel-cert 1 ipv6 2\nA\nB\nl 1\n")
         ≡ Ok (record { format = 1; version = V6; table = codes "A" ∷ codes "B" ∷ []; root = (LeafNode (codes "B")) }) }
     ensures format_2_without_chains { format_reading (codes "flowlabel-cert 2 ipv4 1\nA\nl 0\n")
         ≡ Ok (record { format = 2; version = V4; table = codes "A" ∷ []; root = (LeafNode (codes "A")) }) }
+    ensures a_label_of_digits { format_reading (codes "flowlabel-cert 1 ipv4 1\n5\nl 0\n")
+        ≡ Ok (record { format = 1; version = V4; table = codes "5" ∷ []; root = (LeafNode (codes "5")) }) }
+    ensures a_label_with_a_blank { format_reading (codes "flowlabel-cert 1 ipv4 1\nGuest network\nl 0\n")
+        ≡ Ok (record {
+          format = 1;
+          version = V4;
+          table = codes "Guest network" ∷ [];
+          root = (LeafNode (codes "Guest network"));
+        }) }
+{}
+
+/// FORMATS.md, "Certificates": the cost and the set of labels of a node.
+pub fn a_text_has_the_claim_of_a_node()
     ensures an_empty_set { format_reading (codes "flowlabel-cert 1 ipv4 2\nA\nB\nn 0\nl 0\nl 1\n")
         ≡ Ok (record {
           format = 1;
@@ -53,15 +70,10 @@ pub fn a_text_represents_a_certificate()
           root = (InnerNode (record { cost = 4294967295; labels = codes "A" ∷ codes "B" ∷ [] }) (LeafNode (codes "A"))
               (LeafNode (codes "B")));
         }) }
-    ensures a_label_of_digits { format_reading (codes "flowlabel-cert 1 ipv4 1\n5\nl 0\n")
-        ≡ Ok (record { format = 1; version = V4; table = codes "5" ∷ []; root = (LeafNode (codes "5")) }) }
-    ensures a_label_with_a_blank { format_reading (codes "flowlabel-cert 1 ipv4 1\nGuest network\nl 0\n")
-        ≡ Ok (record {
-          format = 1;
-          version = V4;
-          table = codes "Guest network" ∷ [];
-          root = (LeafNode (codes "Guest network"));
-        }) }
+{}
+
+/// FORMATS.md, "Certificates" and "Chains": nodes below nodes.
+pub fn a_text_represents_a_tree()
     ensures the_lower_half_first { format_reading
         (codes "flowlabel-cert 1 ipv4 3\nA\nB\nC\nn 2 0 1 2\nn 1 0 1\nl 0\nl 1\nl 2\n")
         ≡ Ok (record {
@@ -97,8 +109,8 @@ pub fn a_text_represents_a_certificate()
         ≡ Ok (record { format = 1; version = V6; table = codes "A" ∷ []; root = nested_tree 128 }) }
 {}
 
-/// The same texts, written.
-pub fn a_certificate_has_a_text()
+/// FORMATS.md, "Certificates" and "Chains": the printed texts of the certificates that the page shows.
+pub fn certificates_of_the_page_have_texts()
     ensures the_first_of_the_page { certificate_text
         (record {
           format = 1;
@@ -118,6 +130,10 @@ pub fn a_certificate_has_a_text()
           root = (ChainNode (record { cost = 1; labels = codes "D" ∷ [] }) (replicate 32 true) (codes "D")
               (LeafNode (codes "X")));
         }) ≡ last }
+{}
+
+/// FORMATS.md, "Certificates": the printed texts of certificates with a single leaf.
+pub fn a_certificate_of_one_leaf_has_a_text()
     ensures one_leaf { certificate_text
         (record { format = 1; version = V4; table = codes "A" ∷ []; root = (LeafNode (codes "A")) })
         ≡ codes "flowlabel-cert 1 ipv4 1\nA\nl 0\n" }
@@ -127,6 +143,21 @@ pub fn a_certificate_has_a_text()
     ensures format_2_without_chains { certificate_text
         (record { format = 2; version = V4; table = codes "A" ∷ []; root = (LeafNode (codes "A")) })
         ≡ codes "flowlabel-cert 2 ipv4 1\nA\nl 0\n" }
+    ensures a_label_of_digits { certificate_text
+        (record { format = 1; version = V4; table = codes "5" ∷ []; root = (LeafNode (codes "5")) })
+        ≡ codes "flowlabel-cert 1 ipv4 1\n5\nl 0\n" }
+    ensures a_label_with_a_blank { certificate_text
+        (record {
+          format = 1;
+          version = V4;
+          table = codes "Guest network" ∷ [];
+          root = (LeafNode (codes "Guest network"));
+        })
+        ≡ codes "flowlabel-cert 1 ipv4 1\nGuest network\nl 0\n" }
+{}
+
+/// FORMATS.md, "Certificates": the printed cost and set of labels of a node.
+pub fn the_claim_of_a_node_has_a_text()
     ensures an_empty_set { certificate_text
         (record {
           format = 1;
@@ -144,17 +175,10 @@ pub fn a_certificate_has_a_text()
               (LeafNode (codes "B")));
         })
         ≡ codes "flowlabel-cert 1 ipv4 2\nA\nB\nn 4294967295 0 1\nl 0\nl 1\n" }
-    ensures a_label_of_digits { certificate_text
-        (record { format = 1; version = V4; table = codes "5" ∷ []; root = (LeafNode (codes "5")) })
-        ≡ codes "flowlabel-cert 1 ipv4 1\n5\nl 0\n" }
-    ensures a_label_with_a_blank { certificate_text
-        (record {
-          format = 1;
-          version = V4;
-          table = codes "Guest network" ∷ [];
-          root = (LeafNode (codes "Guest network"));
-        })
-        ≡ codes "flowlabel-cert 1 ipv4 1\nGuest network\nl 0\n" }
+{}
+
+/// FORMATS.md, "Certificates" and "Chains": the printed texts of nodes below nodes.
+pub fn a_tree_has_a_text()
     ensures the_lower_half_first { certificate_text
         (record {
           format = 1;

@@ -246,7 +246,7 @@ pub fn an_entry_has_a_block()
         ∷ (record { start = 1; bits = 2; label = [] }) ∷ []) → ⊥ }
 {}
 
-/// DEFINITIONS.md, "Minimal pairs".
+/// DEFINITIONS.md, "The pair that shrink prints".
 pub fn the_first_label_of_the_table_is_chosen()
     ensures of_a_set { least_label (codes "B" ∷ codes "A" ∷ []) (codes "A" ∷ codes "B" ∷ []) ≡ codes "B" }
     ensures of_a_set_that_the_table_lacks { least_label (codes "C" ∷ []) (codes "A" ∷ codes "B" ∷ []) ≡ codes "A" }
@@ -267,7 +267,7 @@ pub fn the_first_label_of_the_table_is_chosen()
         ≡ record { cost = 3; labels = codes "C" ∷ codes "A" ∷ codes "X" ∷ [] } }
 {}
 
-/// DEFINITIONS.md, "Minimal pairs": everything in a pair is determined by the map.
+/// DEFINITIONS.md, "The pair that shrink prints": everything in a pair is determined by the map.
 pub fn a_pair_is_minimal_as_it_is_read()
     ensures of_one_label { AreMinimalAsRead (map_reading (codes "")) (list_reading (codes "0.0.0.0/0 UNKNOWN\n"))
         (format_reading (codes "flowlabel-cert 1 ipv4 1\nUNKNOWN\nl 0\n")) }
@@ -292,6 +292,10 @@ pub fn a_pair_is_minimal_as_it_is_read()
         (format_reading (codes "flowlabel-cert 1 ipv4 1\nUNKNOWN\nl 0\n")) → ⊥ }
     ensures no_entries { AreMinimalAsRead (map_reading (codes "")) (list_reading (codes "label 5 UNKNOWN\n"))
         (format_reading (codes "flowlabel-cert 1 ipv4 1\nUNKNOWN\nl 0\n")) → ⊥ }
+{}
+
+/// DEFINITIONS.md, "The pair that shrink prints": the certificate represents the map, with exact costs.
+pub fn a_minimal_pair_has_exact_costs()
     ensures one_leaf_for_two_labels { AreMinimalPair (map_reading (codes "0.0.0.0/1 A\n128.0.0.0/1 B\n"))
         (list_reading (codes "0.0.0.0/0 A\n")) (format_reading (codes "flowlabel-cert 1 ipv4 3\nA\nB\nUNKNOWN\nl 0\n"))
         → ⊥ }

@@ -218,8 +218,8 @@ pub fn faults_of_messages()
         ≡ Some BadVersion }
 {}
 
-/// FORMATS.md, "IPFIX Files": F5 to F7, at the offset of the set or the record.
-pub fn faults_of_sets_and_records()
+/// FORMATS.md, "IPFIX Files": F5, at the offset of the set.
+pub fn faults_of_set_lengths()
     ensures three_bytes_left { counts (codes "000a0013 00000000 00000000 00000001 000200")
         ≡ Err (at_offset BadSetLength 16) }
     ensures a_length_of_3 { counts (codes "000a0014 00000000 00000000 00000001 00020003")
@@ -228,6 +228,13 @@ pub fn faults_of_sets_and_records()
         ≡ Err (at_offset BadSetLength 16) }
     ensures the_second_set { counts (codes "000a0018 00000000 00000000 00000001 012c0004 012d0009")
         ≡ Err (at_offset BadSetLength 20) }
+    ensures a_set_of_the_second_message { counts
+        (codes "000a0010 00000000 00000000 00000001 000a0014 00000000 00000000 00000001 00020003")
+        ≡ Err (at_offset BadSetLength 32) }
+{}
+
+/// FORMATS.md, "IPFIX Files": F6, at the offset of the template record.
+pub fn faults_of_template_records()
     ensures a_template_255 { counts (codes "000a001c 00000000 00000000 00000001 0002000c 00ff0001 00080004")
         ≡ Err (at_offset (BadTemplate BadTemplateId) 20) }
     ensures four_zeros_of_padding { counts
@@ -243,24 +250,29 @@ pub fn faults_of_sets_and_records()
     ensures an_enterprise_that_is_cut_off { counts
         (codes "000a001e 00000000 00000000 00000001 0002000e 01000001 80080004 0000")
         ≡ Err (at_offset (BadTemplate Truncated) 20) }
+    ensures a_template_of_the_second_message { counts
+        (codes "000a0010 00000000 00000000 00000001 000a001c 00000000 00000000 00000001 0002000c 00ff0001 00080004")
+        ≡ Err (at_offset (BadTemplate BadTemplateId) 36) }
+    ensures the_withdrawal_of_all_of_the_other_kind { counts
+        (codes "000a0018 00000000 00000000 00000001 00020008 00030000")
+        ≡ Err (at_offset (BadTemplate BadTemplateId) 20) }
+{}
+
+/// FORMATS.md, "IPFIX Files": F7, at the offset of the data record.
+pub fn faults_of_data_records()
     ensures a_value_beyond_the_set { counts
         (codes "000a0024 00000000 00000000 00000001 0002000c 01000001 0052ffff 01000008 04657468")
         ≡ Err (at_offset BadRecord 32) }
     ensures the_second_record { counts
         (codes "000a0024 00000000 00000000 00000001 0002000c 01000001 0052ffff 01000008 0165 0265")
         ≡ Err (at_offset BadRecord 34) }
-    ensures a_set_of_the_second_message { counts
-        (codes "000a0010 00000000 00000000 00000001 000a0014 00000000 00000000 00000001 00020003")
-        ≡ Err (at_offset BadSetLength 32) }
-    ensures a_template_of_the_second_message { counts
-        (codes "000a0010 00000000 00000000 00000001 000a001c 00000000 00000000 00000001 0002000c 00ff0001 00080004")
-        ≡ Err (at_offset (BadTemplate BadTemplateId) 36) }
     ensures a_record_of_the_second_message { counts
         (codes "000a0010 00000000 00000000 00000001 000a0024 00000000 00000000 00000001 0002000c 01000001 0052ffff 01000008 04657468")
         ≡ Err (at_offset BadRecord 48) }
-    ensures the_withdrawal_of_all_of_the_other_kind { counts
-        (codes "000a0018 00000000 00000000 00000001 00020008 00030000")
-        ≡ Err (at_offset (BadTemplate BadTemplateId) 20) }
+{}
+
+/// RFC 7011, section 3.3.2: the length of a set includes its header, its records and its padding.
+pub fn a_set_ends_at_its_length()
     ensures a_set_of_4100_bytes { set_next no_templates 1 16 (hex (codes "00041004") ++ replicate 4096 0)
         ≡ Ok (Skipped 4, []) }
     ensures a_set_before_another { set_next no_templates 1 16 (hex (codes "0004000501 0005"))

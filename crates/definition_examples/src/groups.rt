@@ -14,8 +14,8 @@ ghost use Rattle.prefix_keys.specs.declared.version.Version.TheVariants.{V6};
 ghost use Rattle.std.specs.Prelude.{◌≡◌, ◌==◌, ◌/◌, ◌∷◌, [], codes, Err, false, Ok, true};
 ghost use Rattle.std.specs.declared.cmp.Ordering.TheVariants.{Equal, Greater, Less};
 
-/// FORMATS.md, "Groups of rows": a group is all rows with the same values of the fields.
-pub fn rows_with_the_same_values_are_a_group()
+/// FORMATS.md, "Groups of rows": a group is all rows with the same value of the field.
+pub fn rows_with_the_same_value_are_a_group()
     ensures by_protocol { uniq (codes "proto") false unlabelled
         (tcp ∷ record tcp { protocol = 17; packets = 7; octets = 70 } ∷ tcp ∷ [])
         ≡ Ok (codes "proto|records|packets|bytes\n6|2|10|1092\n17|1|7|70\n") }
@@ -31,33 +31,41 @@ pub fn rows_with_the_same_values_are_a_group()
     ensures by_flags { uniq (codes "flags") false unlabelled
         (tcp ∷ tcp_back ∷ tcp ∷ record tcp { protocol = 17; packets = 7; octets = 70 } ∷ [])
         ≡ Ok (codes "flags|records|packets|bytes\n27|3|17|1162\n19|1|2|80\n") }
+    ensures no_rows { uniq (codes "proto") false unlabelled ([])
+        ≡ Ok (codes "proto|records|packets|bytes\n") }
+    ensures both_directions_count_one_by_one { uniq (codes "proto") false unlabelled (tcp ∷ tcp_back ∷ [])
+        ≡ Ok (codes "proto|records|packets|bytes\n6|2|7|626\n") }
+    ensures other_values_do_not_matter { uniq (codes "sport") false unlabelled
+        (tcp ∷ record tcp { dport = 1; flags = 0; packets = 0; octets = 0 } ∷ [])
+        ≡ Ok (codes "sport|records|packets|bytes\n1804|2|5|546\n") }
+{}
+
+/// FORMATS.md, "Groups of rows": a group is all rows with the same values of the fields.
+pub fn rows_with_the_same_values_are_a_group()
     ensures by_two_fields { uniq (codes "dport,proto") false unlabelled
         (tcp ∷ record tcp { protocol = 17; packets = 7; octets = 70 } ∷ tcp_back ∷ tcp ∷ [])
         ≡ Ok (codes "dport|proto|records|packets|bytes\n443|6|2|10|1092\n443|17|1|7|70\n1804|6|1|2|80\n") }
     ensures by_the_same_fields_in_another_order { uniq (codes "proto,dport") false unlabelled
         (tcp ∷ record tcp { protocol = 17; packets = 7; octets = 70 } ∷ tcp_back ∷ tcp ∷ [])
         ≡ Ok (codes "proto|dport|records|packets|bytes\n6|443|2|10|1092\n17|443|1|7|70\n6|1804|1|2|80\n") }
-    ensures no_rows { uniq (codes "proto") false unlabelled ([])
-        ≡ Ok (codes "proto|records|packets|bytes\n") }
     ensures one_row { uniq (codes "sip,dip,sport,dport,proto,flags") false unlabelled (tcp ∷ [])
         ≡ Ok
         (codes "sip|dip|sport|dport|proto|flags|records|packets|bytes\n10.0.0.0|198.51.100.228|1804|443|6|27|1|5|546\n") }
-    ensures both_directions_count_one_by_one { uniq (codes "proto") false unlabelled (tcp ∷ tcp_back ∷ [])
-        ≡ Ok (codes "proto|records|packets|bytes\n6|2|7|626\n") }
-    ensures other_values_do_not_matter { uniq (codes "sport") false unlabelled
-        (tcp ∷ record tcp { dport = 1; flags = 0; packets = 0; octets = 0 } ∷ [])
-        ≡ Ok (codes "sport|records|packets|bytes\n1804|2|5|546\n") }
+    ensures by_three_fields { uniq (codes "sip,dip,proto") false unlabelled (tcp ∷ record tcp { protocol = 17 } ∷ [])
+        ≡ Ok (codes "sip|dip|proto|records|packets|bytes\n10.0.0.0|198.51.100.228|6|1|5|546\n10.0.0.0|198.51.100.228|17|1|5|546\n") }
+    ensures by_six_fields { uniq (codes "sip,dip,sport,dport,proto,flags") true unlabelled
+        (record tcp { flags = 274 } ∷ record tcp { flags = 18 } ∷ [])
+        ≡ Ok (codes "sip|dip|sport|dport|proto|flags|records|packets|bytes\n10.0.0.0|198.51.100.228|1804|443|6|18|1|5|546\n10.0.0.0|198.51.100.228|1804|443|6|274|1|5|546\n") }
+{}
+
+/// FORMATS.md, "Groups of rows": addresses are the same if their versions and all their bits are.
+pub fn rows_with_the_same_address_are_a_group()
     ensures an_address_of_each_version { uniq (codes "sip") false unlabelled
         (tcp ∷ record tcp { version = V6; src = 0xffff_0a00_0000 } ∷ tcp ∷ [])
         ≡ Ok (codes "sip|records|packets|bytes\n10.0.0.0|2|10|1092\n::ffff:a00:0|1|5|546\n") }
     ensures the_same_number_in_both_versions { uniq (codes "sip") false unlabelled
         (tcp ∷ record tcp { version = V6; src = 0x0a00_0000 } ∷ [])
         ≡ Ok (codes "sip|records|packets|bytes\n10.0.0.0|1|5|546\n::a00:0|1|5|546\n") }
-    ensures by_three_fields { uniq (codes "sip,dip,proto") false unlabelled (tcp ∷ record tcp { protocol = 17 } ∷ [])
-        ≡ Ok (codes "sip|dip|proto|records|packets|bytes\n10.0.0.0|198.51.100.228|6|1|5|546\n10.0.0.0|198.51.100.228|17|1|5|546\n") }
-    ensures by_six_fields { uniq (codes "sip,dip,sport,dport,proto,flags") true unlabelled
-        (record tcp { flags = 274 } ∷ record tcp { flags = 18 } ∷ [])
-        ≡ Ok (codes "sip|dip|sport|dport|proto|flags|records|packets|bytes\n10.0.0.0|198.51.100.228|1804|443|6|18|1|5|546\n10.0.0.0|198.51.100.228|1804|443|6|274|1|5|546\n") }
     ensures two_hosts_of_one_64 { uniq (codes "sip") false unlabelled
         (record tcp { version = V6; src = 0x2001_0db8_0000_0000_0000_0000_0000_0001 }
         ∷ record tcp { version = V6; src = 0x2001_0db8_0000_0000_0000_0000_0000_0002 } ∷ [])
@@ -125,12 +133,20 @@ pub fn sums_never_overflow()
         (codes "proto|records|packets|bytes\n6|2|36893488147419103230|36893488147419103230\n17|1|18446744073709551615|0\n") }
 {}
 
-/// FORMATS.md, "Groups of rows".
-pub fn groups_are_in_the_order_of_their_first_rows_or_sorted()
+/// FORMATS.md, "Groups of rows": without `--sort-output`.
+pub fn groups_are_in_the_order_of_their_first_rows()
     ensures of_their_first_rows { uniq (codes "sport") false unlabelled
         (record tcp { sport = 10 } ∷ record tcp { sport = 9 } ∷ record tcp { sport = 100 } ∷ record tcp { sport = 10 }
         ∷ [])
         ≡ Ok (codes "sport|records|packets|bytes\n10|2|10|1092\n9|1|5|546\n100|1|5|546\n") }
+    ensures labels_by_first_rows { uniq (codes "src-label") false
+        (by_map (codes "10.0.0.0/8 B\n11.0.0.0/8 A\n12.0.0.0/8 a\n13.0.0.0/8 AA\n"))
+        (record tcp { src = 0x0c00_0000 } ∷ record tcp { src = 0x0a00_0000 } ∷ record tcp { src = 0x0b00_0000 } ∷ [])
+        ≡ Ok (codes "src-label|records|packets|bytes\na|1|5|546\nB|1|5|546\nA|1|5|546\n") }
+{}
+
+/// FORMATS.md, "Groups of rows": with `--sort-output`, by one field.
+pub fn groups_are_sorted_by_value()
     ensures numbers_by_value { uniq (codes "sport") true unlabelled
         (record tcp { sport = 10 } ∷ record tcp { sport = 9 } ∷ record tcp { sport = 100 } ∷ record tcp { sport = 10 }
         ∷ [])
@@ -141,6 +157,18 @@ pub fn groups_are_in_the_order_of_their_first_rows_or_sorted()
     ensures ipv4_before_ipv6 { uniq (codes "sip") true unlabelled
         (record tcp { version = V6; src = 0x0001 } ∷ record tcp { src = 0xffff_ffff } ∷ [])
         ≡ Ok (codes "sip|records|packets|bytes\n255.255.255.255|1|5|546\n::1|1|5|546\n") }
+    ensures protocols_by_value { uniq (codes "proto") true unlabelled
+        (record tcp { protocol = 17 } ∷ record tcp { protocol = 6 } ∷ record tcp { protocol = 1 } ∷ [])
+        ≡ Ok (codes "proto|records|packets|bytes\n1|1|5|546\n6|1|5|546\n17|1|5|546\n") }
+    ensures flags_by_value { uniq (codes "flags") true unlabelled
+        (record tcp { flags = 27 } ∷ record tcp { flags = 2 } ∷ [])
+        ≡ Ok (codes "flags|records|packets|bytes\n2|1|5|546\n27|1|5|546\n") }
+    ensures no_rows { uniq (codes "sport") true unlabelled ([])
+        ≡ Ok (codes "sport|records|packets|bytes\n") }
+{}
+
+/// FORMATS.md, "Groups of rows": with `--sort-output`, by the first field in which groups differ.
+pub fn groups_are_sorted_by_their_fields()
     ensures by_the_first_field { uniq (codes "sport,dport") true unlabelled
         (record tcp { sport = 2; dport = 1 } ∷ record tcp { sport = 1; dport = 2 } ∷ [])
         ≡ Ok (codes "sport|dport|records|packets|bytes\n1|2|1|5|546\n2|1|1|5|546\n") }
@@ -148,6 +176,13 @@ pub fn groups_are_in_the_order_of_their_first_rows_or_sorted()
         (record tcp { sport = 1; dport = 2 } ∷ record tcp { sport = 1; dport = 1 } ∷ record tcp { sport = 0; dport = 3 }
         ∷ [])
         ≡ Ok (codes "sport|dport|records|packets|bytes\n0|3|1|5|546\n1|1|1|5|546\n1|2|1|5|546\n") }
+    ensures by_the_third_field { uniq (codes "proto,dport,sport") true unlabelled
+        (record tcp { sport = 2 } ∷ record tcp { sport = 1 } ∷ [])
+        ≡ Ok (codes "proto|dport|sport|records|packets|bytes\n6|443|1|1|5|546\n6|443|2|1|5|546\n") }
+{}
+
+/// FORMATS.md, "Groups of rows": with `--sort-output`, by labels.
+pub fn groups_are_sorted_by_label()
     ensures labels_by_their_bytes { uniq (codes "src-label") true
         (by_map (codes "10.0.0.0/8 B\n11.0.0.0/8 A\n12.0.0.0/8 a\n13.0.0.0/8 AA\n"))
         (record tcp { src = 0x0c00_0000 } ∷ record tcp { src = 0x0a00_0000 } ∷ record tcp { src = 0x0d00_0000 }
@@ -163,21 +198,6 @@ pub fn groups_are_in_the_order_of_their_first_rows_or_sorted()
         }
         ∷ [])
         ≡ Ok (codes "src-label|records|packets|bytes\n|1|5|546\nA|1|5|546\n") }
-    ensures labels_by_first_rows { uniq (codes "src-label") false
-        (by_map (codes "10.0.0.0/8 B\n11.0.0.0/8 A\n12.0.0.0/8 a\n13.0.0.0/8 AA\n"))
-        (record tcp { src = 0x0c00_0000 } ∷ record tcp { src = 0x0a00_0000 } ∷ record tcp { src = 0x0b00_0000 } ∷ [])
-        ≡ Ok (codes "src-label|records|packets|bytes\na|1|5|546\nB|1|5|546\nA|1|5|546\n") }
-    ensures protocols_by_value { uniq (codes "proto") true unlabelled
-        (record tcp { protocol = 17 } ∷ record tcp { protocol = 6 } ∷ record tcp { protocol = 1 } ∷ [])
-        ≡ Ok (codes "proto|records|packets|bytes\n1|1|5|546\n6|1|5|546\n17|1|5|546\n") }
-    ensures flags_by_value { uniq (codes "flags") true unlabelled
-        (record tcp { flags = 27 } ∷ record tcp { flags = 2 } ∷ [])
-        ≡ Ok (codes "flags|records|packets|bytes\n2|1|5|546\n27|1|5|546\n") }
-    ensures no_rows { uniq (codes "sport") true unlabelled ([])
-        ≡ Ok (codes "sport|records|packets|bytes\n") }
-    ensures by_the_third_field { uniq (codes "proto,dport,sport") true unlabelled
-        (record tcp { sport = 2 } ∷ record tcp { sport = 1 } ∷ [])
-        ≡ Ok (codes "proto|dport|sport|records|packets|bytes\n6|443|1|1|5|546\n6|443|2|1|5|546\n") }
 {}
 
 /// FORMATS.md, "Statuses and fault lines": an unknown name (U1) comes before a repeated one (U2).
