@@ -268,7 +268,7 @@ pub fn a_claim_of_two_halves_is_exact()
         ≡ record { cost = 2; labels = codes "B" ∷ codes "A" ∷ [] } }
 {}
 
-/// DEFINITIONS.md, "Chains".
+/// DEFINITIONS.md, "Certificates": the exact claim of a chain.
 pub fn a_chain_has_an_exact_claim()
     ensures the_end_has_the_side_label { chain_claim 2 (codes "A")
         (record { cost = 3; labels = codes "B" ∷ codes "A" ∷ [] })

@@ -315,7 +315,7 @@ pub fn a_run_prints_ranges()
         (codes "low|high|label\n0.0.0.0|127.255.255.255|A\n128.0.0.0|255.255.255.255|\n") }
 {}
 
-/// FORMATS.md, "Exit status" and the table of faults.
+/// FORMATS.md, "Statuses and fault lines".
 pub fn a_run_reports_any_other_fault()
     ensures usage { seen (Err (Usage usage.MapMissing))
         ≡ (2, StandardError, codes "flowlabel: usage: P2 MapMissing\n") }
@@ -370,7 +370,7 @@ pub fn a_file_may_have_a_text()
         (codes "mode ipv4\n" ++ rest) }
 {}
 
-/// FORMATS.md, "Commands" and "Filters": what the words of a command line ask for.
+/// DEFINITIONS.md, "The command line", and FORMATS.md, "Filters": what the words of a command line ask for.
 pub fn a_command_line_asks_for_a_command()
     ensures label_by_a_map { Asks (codes "flowlabel label --pmap m 10.1.2.3")
         (ask.label (FromMap (codes "m")) (V4, 0x0a01_0203)) }

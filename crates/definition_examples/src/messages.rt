@@ -6,7 +6,7 @@ ghost use Rattle.flow_rows.specs.Laws.{sums_of_lines, summed_message_counts};
 ghost use Rattle.pmap_print.specs.Messages.{messages_text};
 ghost use Rattle.std.specs.Prelude.{◌≡◌, ◌∷◌, [], codes, map};
 
-/// FORMATS.md, "Lines of messages". Time 0x6553f100 is 1,700,000,000.
+/// FORMATS.md, "Messages of Files". Time 0x6553f100 is 1,700,000,000.
 pub fn each_message_has_a_line()
     ensures no_file { messages_text []
         ≡ codes "file|message|offset|domain|sequence|time|definitions|skipped-sets|records|options-records|rows|zero-bytes\n" }
