@@ -144,7 +144,7 @@ class Steps:
         os.replace(f"{name}_new", name)
 
     def write(self, name, text):
-        """Writes a file in one step. Its folder is made if there is none."""
+        """Writes a file in one step. Its folder is made if it doesn't exist."""
         self.make(os.path.dirname(name))
         for place in (name, f"{name}_new"):
             shared.refuse_other(place)
@@ -156,7 +156,7 @@ class Steps:
         self.replace(name)
 
     def make(self, folder):
-        """Makes a folder if there is none."""
+        """Makes a folder if it doesn't exist."""
         if folder and not os.path.isdir(folder):
             self.make(os.path.dirname(folder))
             os.mkdir(folder)

@@ -142,7 +142,7 @@ class Templates:
         return data
 
     def template(self, domain, name):
-        """Returns the template of a data set, or None if there is none in force, so that the set is skipped."""
+        """Returns the template of a data set, or None if no template is in force, so that the set is skipped."""
         key = domain, name
         found = self.known.get(key)
         if found is None or name < 256:

@@ -71,7 +71,7 @@ class Comparison(Case):
         self.compare([write(name, text) for name, text in zip(NAMES, texts)], code, texts, line)
 
     def shrunk(self, map_, *words):
-        """Returns the list of a map, or with `--certificate` its certificate, or None if there is none."""
+        """Returns the list of a map, or with `--certificate` its certificate, or None if `shrink` fails."""
         status, output, _ = outcome(PROGRAM, "shrink", "--pmap", write(NAMES[0], map_), *words)
         return output if status == 0 else None
 

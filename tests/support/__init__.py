@@ -33,7 +33,7 @@ ROW = "10.0.0.1|8.8.8.8|0|0|6|0|3|180|0|0\n"
 
 def chosen_program(variable):
     """Returns the program that is tested: the one that a variable names, else the younger of `PROGRAMS`, or an empty
-    text if there is none."""
+    text if none of them exists."""
     if named := os.environ.get(variable):
         return os.path.abspath(shutil.which(named) or named)
     there = [path for path in PROGRAMS[variable] if path.exists()]

@@ -53,8 +53,8 @@ fn read_file<'a, O: Opener, T: TakesFiles>(
 ///
 /// # Errors
 ///
-/// The first fault: a File that can't be opened or read, the first fault of a File's bytes or, if there is none, of its
-/// messages. No File after it is opened. Or `NoMemory` if an allocation fails.
+/// The first fault: a File that can't be opened or read, the first fault of a File's bytes or, if these have no fault,
+/// of its messages. No File after it is opened. Or `NoMemory` if an allocation fails.
 pub fn read_files<'a, O: Opener, T: TakesFiles>(
     alloc: Global,
     opener: &O,

@@ -43,7 +43,7 @@ pub fn bytes_there<'a>(place: &Place, runs: &[u32], bytes: &'a [u8]) -> &'a [u8]
     bytes_after(place, runs, bytes)
 }
 
-/// Returns the number of up to 8 bytes at a place in a record, or 0 if there is none.
+/// Returns the number of up to 8 bytes at a place in a record, or 0 if the place is empty or the record is too short.
 #[inline(always)]
 pub fn u64_there(place: &Place, runs: &[u32], bytes: &[u8]) -> u64
     requires { IsWithin 8 (length bytes.now) place.now }
@@ -63,7 +63,7 @@ pub fn u64_there(place: &Place, runs: &[u32], bytes: &[u8]) -> u64
     }
 }
 
-/// Returns the number of up to 2 bytes at a place in a record, or 0 if there is none.
+/// Returns the number of up to 2 bytes at a place in a record, or 0 if the place is empty or the record is too short.
 #[inline(always)]
 pub fn u16_there(place: &Place, runs: &[u32], bytes: &[u8]) -> u16
     requires { IsWithin 2 (length bytes.now) place.now }

@@ -24,8 +24,9 @@ part_model (part.Number number) = NumberPart number
 part_model (part.Label label) = LabelPart (option_copied label)
 part_model (part.Time number precision) = TimePart precision number
 
--- A part as bytes, which begin with its kind. Numbers have their highest byte first. A label, which is empty if there
--- is none, is followed by a 0, since no label contains one. A time has one more than its number, or 0 if there is none.
+-- A part as bytes, which begin with its kind. Numbers have their highest byte first. A label, or an empty text if there
+-- is no label, is followed by a 0, since no label contains one. A time has one more than its number, or 0 if the
+-- number is missing.
 abbrev pub part_code : KeyPartModel → List ℕ
 part_code (AddressPart (V4, value)) = 0 ∷ to_be_bytes w32 value
 part_code (AddressPart (V6, value)) = 1 ∷ to_be_bytes w64 (value / 2 ^ 64) ++ to_be_bytes w64 (value % 2 ^ 64)

@@ -44,7 +44,7 @@ impl Model for Pieces {
     ghost invariant = { λ p. AreEnded p.ended.items × (p.len ≡ length (text_in p.ended.items p.last.items)) };
 }
 
-// Returns the number of bytes up to the last line feed, or 0 if there is none.
+// Returns the number of bytes up to the last line feed, or 0 if there is no line feed.
 fn end_of_lines(bytes: &[u8]) -> usize
     ensures within { result ≤ length bytes.now }
     ensures feed { 0 < result → EndsLine (take result bytes.now) }
