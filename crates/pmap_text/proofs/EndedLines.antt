@@ -1,10 +1,11 @@
 -- The lines of a text are those of its pieces, all of which end with a line feed but for the last.
-use Rattle.std.proofs.Common.{◌≡◌, ◌≢◌, ℕ, ◌==◌, Bool, true, false, cond, List, [], ◌∷◌, ◌++◌, Result, Ok, Err, refl, sym, ap, subst, ◌∙◌}
+use Rattle.std.proofs.Common.{◌≡◌, ◌≢◌, ℕ, ◌==◌, Bool, true, false, cond, List, [], ◌∷◌, ◌++◌, Result, Ok, Err, flat_map, refl, sym, ap, subst, ◌∙◌}
 use Rattle.std.proofs.lemmas.List.{append-nil, append_assoc}
+use Rattle.std.proofs.lemmas.List.Elements.{All-head, All-tail}
 use Rattle.std.specs.List.{IsDistinct, onto_first}
 use Rattle.std.specs.Global.{Vec}
 use Rattle.pmap_model.specs.ListModel.{Prefix}
-use Rattle.pmap_text.specs.Inner.{EndsLine, HasDistinctKeys, HasRead, text_in}
+use Rattle.pmap_text.specs.Inner.{AreEnded, EndsLine, HasDistinctKeys, HasRead, text_in}
 use Rattle.pmap_text.specs.Reading.{Earlier, MapFault, NoMemory, lines_of, lines_read}
 use Rattle.pmap_text.specs.declared.reading.form.Form.TheVariants.{Map as map_form}
 
@@ -27,52 +28,47 @@ lines_of-append text rest (front, is) =
     ap (λ (t : List ℕ). lines_of (t ++ rest)) is ∙ ap lines_of (append_assoc front (10 ∷ []) rest) ∙ cut.3
     ∙ sym (ap (λ (t : List ℕ). lines_of t ++ lines_of rest) is ∙ ap (λ (ls : List (List ℕ)). ls ++ lines_of rest) cut.2)
 
--- the text of pieces whose last one grows, or is ended
-pub text_in-extend : (pieces : List (Vec ℕ)) (last more : List ℕ) → text_in pieces (last ++ more) ≡ text_in pieces last ++ more
-text_in-extend [] last more = refl
-text_in-extend (p ∷ ps) last more =
-    ap (λ (t : List ℕ). p.items ++ t) (text_in-extend ps last more) ∙ sym (append_assoc p.items (text_in ps last) more)
+-- A map's text is read piece by piece, and this is left of it. No line adds an entry, so no block is repeated.
+pub record IsLeft (whole : Result Earlier MapFault) (pieces : List (Vec ℕ)) (last : List ℕ) (number : ℕ) (reading : Earlier) : Type 0 where
+  pub read : whole ≡ lines_read map_form number (Ok reading) (lines_of (text_in pieces last))
+  pub ended : AreEnded pieces
+  pub none : reading.prefixes ≡ []
 
-pub text_in-end : (pieces : List (Vec ℕ)) (p : Vec ℕ) (last : List ℕ) → text_in (pieces ++ p ∷ []) last ≡ text_in pieces (p.items ++ last)
-text_in-end [] p last = refl
-text_in-end (q ∷ qs) p last = ap (λ (t : List ℕ). q.items ++ t) (text_in-end qs p last)
+-- the text is read on after some lines, or it has the fault that was found in them
+abbrev pub GoesOn : Result Earlier MapFault → Earlier → List (List ℕ) → Result ℕ MapFault → Type 0
+GoesOn whole new more (Ok next) = whole ≡ lines_read map_form next (Ok new) more
+GoesOn whole new more (Err fault) = fault.kind ≢ NoMemory → whole ≡ Err fault
 
-pub EndsLine-after : (front text : List ℕ) → EndsLine text → EndsLine (front ++ text)
-EndsLine-after front text (before, is) =
-    (front ++ before, ap (λ (t : List ℕ). front ++ t) is ∙ sym (append_assoc front before (10 ∷ [])))
-
--- A map's text is read on after a piece that ends with a line feed, to the state or to the fault of its last line. No line
--- adds an entry, so no block is repeated.
-pub none_repeated : (ps : List Prefix) → ps ≡ [] → HasDistinctKeys ps
+none_repeated : (ps : List Prefix) → ps ≡ [] → HasDistinctKeys ps
 unfolding IsDistinct
 none_repeated ps none = subst HasDistinctKeys (sym none) tt
 
-pub piece-next : (whole : Result Earlier MapFault) (old new : Earlier) (number next : ℕ) (piece rest : List ℕ)
-    → HasRead map_form old number piece 18446744073709551615 new (Ok next) → old.prefixes ≡ [] → EndsLine piece
-    → whole ≡ lines_read map_form number (Ok old) (lines_of (piece ++ rest)) → whole ≡ lines_read map_form next (Ok new) (lines_of rest)
-piece-next whole old new number next piece rest reads none ends so_far =
-    so_far ∙ ap (lines_read map_form number (Ok old)) (lines_of-append piece rest ends)
-    ∙ reads.ok refl (none_repeated new.prefixes (reads.map refl none)) (lines_of rest)
+module _ {whole : Result Earlier MapFault} {pieces : List (Vec ℕ)} {last : List ℕ} {number : ℕ} {old new : Earlier} (left : IsLeft whole pieces last number old) where
+  goes_on : (text : List ℕ) (more : List (List ℕ)) (result : Result ℕ MapFault) → lines_of (text_in pieces last) ≡ lines_of text ++ more
+      → HasRead map_form old number text 18446744073709551615 new result → GoesOn whole new more result
+  goes_on text more (Ok next) cut reads =
+      left.read ∙ ap (lines_read map_form number (Ok old)) cut ∙ reads.ok refl (none_repeated new.prefixes (reads.map refl left.none)) more
+  goes_on text more (Err fault) cut reads = λ other.
+      left.read ∙ ap (lines_read map_form number (Ok old)) cut ∙ reads.err (none_repeated new.prefixes (reads.map refl left.none)) other more
 
-pub piece-fault : (whole : Result Earlier MapFault) (old new : Earlier) (number : ℕ) (fault : MapFault) (piece rest : List ℕ)
-    → HasRead map_form old number piece 18446744073709551615 new (Err fault) → old.prefixes ≡ [] → EndsLine piece
-    → whole ≡ lines_read map_form number (Ok old) (lines_of (piece ++ rest)) → fault.kind ≢ NoMemory → whole ≡ Err fault
-piece-fault whole old new number fault piece rest reads none ends so_far other =
-    so_far ∙ ap (lines_read map_form number (Ok old)) (lines_of-append piece rest ends)
-    ∙ reads.err (none_repeated new.prefixes (reads.map refl none)) other (lines_of rest)
+  -- after the first of the pieces that are left
+  pub after-piece : {p : Vec ℕ} {ps : List (Vec ℕ)} {text : List ℕ} (result : Result ℕ MapFault) → pieces ≡ p ∷ ps → text ≡ p.items
+      → HasRead map_form old number text 18446744073709551615 new result → GoesOn whole new (lines_of (text_in ps last)) result
+  after-piece {p} {ps} {text} result next same =
+      goes_on text (lines_of (text_in ps last)) result
+      (ap (λ (qs : List (Vec ℕ)). lines_of (text_in qs last)) next ∙ ap lines_of (append_assoc p.items (flat_map (λ (q : Vec ℕ). q.items) ps) last)
+      ∙ lines_of-append p.items (text_in ps last) (All-head (λ (q : Vec ℕ). EndsLine q.items) p ps (subst AreEnded next left.ended))
+      ∙ ap (λ (t : List ℕ). lines_of t ++ lines_of (text_in ps last)) (sym same))
 
--- the last piece, which needn't end with a line feed
-last-line : (old : Earlier) (number : ℕ) (last : List ℕ) → lines_read map_form number (Ok old) (lines_of last) ≡ lines_read map_form number (Ok old) (lines_of last ++ [])
-last-line old number last = ap (lines_read map_form number (Ok old)) (sym (append-nil (lines_of last)))
+  pub left-after : {p : Vec ℕ} {ps : List (Vec ℕ)} {text : List ℕ} {end : ℕ} → pieces ≡ p ∷ ps → text ≡ p.items
+      → HasRead map_form old number text 18446744073709551615 new (Ok end) → IsLeft whole ps last end new
+  left-after {p} {ps} next same reads = record {
+    read = after-piece (Ok _) next same reads;
+    ended = All-tail (λ (q : Vec ℕ). EndsLine q.items) p ps (subst AreEnded next left.ended);
+    none = reads.map refl left.none;
+  }
 
-pub last-read : (whole : Result Earlier MapFault) (old new : Earlier) (number next : ℕ) (last : List ℕ)
-    → HasRead map_form old number last 18446744073709551615 new (Ok next) → old.prefixes ≡ []
-    → whole ≡ lines_read map_form number (Ok old) (lines_of last) → whole ≡ Ok new
-last-read whole old new number next last reads none so_far =
-    so_far ∙ last-line old number last ∙ reads.ok refl (none_repeated new.prefixes (reads.map refl none)) []
-
-pub last-fault : (whole : Result Earlier MapFault) (old new : Earlier) (number : ℕ) (fault : MapFault) (last : List ℕ)
-    → HasRead map_form old number last 18446744073709551615 new (Err fault) → old.prefixes ≡ []
-    → whole ≡ lines_read map_form number (Ok old) (lines_of last) → fault.kind ≢ NoMemory → whole ≡ Err fault
-last-fault whole old new number fault last reads none so_far other =
-    so_far ∙ last-line old number last ∙ reads.err (none_repeated new.prefixes (reads.map refl none)) other []
+  -- after the last piece, which needn't end with a line feed
+  pub after-last : (result : Result ℕ MapFault) → pieces ≡ [] → HasRead map_form old number last 18446744073709551615 new result → GoesOn whole new [] result
+  after-last result none =
+      goes_on last [] result (ap (λ (qs : List (Vec ℕ)). lines_of (text_in qs last)) none ∙ sym (append-nil (lines_of last)))

@@ -1,6 +1,6 @@
 use Rattle.std.specs.Prelude.{◌≡◌, ◌≢◌, ◌+◌, ◌≤◌, ◌||◌, ◌&&◌, ◌==◌, ◌⊎◌, All, length, ℕ, Bool, true}
 use Rattle.std.specs.Prelude.{false, if◌then◌else◌, List, [], ◌∷◌, ◌++◌, Option, Some, None, Result}
-use Rattle.std.specs.Prelude.{Ok, Err, IfErr, IfOk, OnErr, OnOk, slice_get, take, unwrap_or}
+use Rattle.std.specs.Prelude.{Ok, Err, IfErr, IfOk, OnErr, OnOk, flat_map, slice_get, take, unwrap_or}
 use Rattle.std.specs.List.{list_any, IsDistinct}
 use Rattle.std.specs.Option.{option_map_or}
 use Rattle.std.specs.Ordering.{is_eq, nat_cmp, ordering_then}
@@ -140,5 +140,4 @@ AreEnded pieces = All (λ p. EndsLine p.items) pieces
 
 -- the text of these pieces and the last one
 abbrev pub text_in : List (Vec ℕ) → List ℕ → List ℕ
-text_in [] last = last
-text_in (p ∷ ps) last = p.items ++ text_in ps last
+text_in pieces last = flat_map (λ p. p.items) pieces ++ last

@@ -1,7 +1,8 @@
 //! Texts in pieces, each of which can be freed as soon as its lines are read.
-ghost use Rattle.std.specs.Prelude.{◌≡◌, ◌≤◌, ◌<◌, ◌^◌, ◌++◌, [], length, take, IfOk};
-ghost use Rattle.pmap_text.specs.Inner.{EndsLine, AreEnded, text_in};
+ghost use Rattle.std.specs.Prelude.{◌≡◌, ◌<◌, ◌^◌, ◌++◌, [], length, IfOk};
+ghost use Rattle.pmap_text.specs.Inner.{AreEnded, text_in};
 
+use memchr::memrchr;
 use std::alloc::{AllocError, Global};
 use std::marker::Model;
 
@@ -44,18 +45,6 @@ impl Model for Pieces {
     ghost invariant = { λ p. AreEnded p.ended.items × (p.len ≡ length (text_in p.ended.items p.last.items)) };
 }
 
-// Returns the number of bytes up to the last line feed, or 0 if there is no line feed.
-fn end_of_lines(bytes: &[u8]) -> usize
-    ensures within { result ≤ length bytes.now }
-    ensures feed { 0 < result → EndsLine (take result bytes.now) }
-{
-    let mut end = bytes.len();
-    while end > 0 && bytes[end - 1] != b'\n' {
-        end -= 1;
-    }
-    end
-}
-
 // Returns an empty piece, which follows this number of bytes, with room.
 fn new_piece(alloc: Global, before: usize) -> Result<Vec<u8>, AllocError>
     ensures { IfOk result (λ piece. piece.items ≡ []) }
@@ -89,52 +78,39 @@ impl Pieces {
         if bytes.len() < least && self.last.len() < least - bytes.len() {
             return self.extended(bytes);
         }
-        let end = end_of_lines(bytes);
-        if end == 0 {
+        let Some(feed) = memrchr(b'\n', bytes) else {
             return self.extended(bytes);
-        }
-        let (lines, rest) = bytes.split_at(end);
-        self.ended_by(lines)?.extended(rest)
+        };
+        let (lines, rest) = bytes.split_at(feed + 1);
+        self.extended(lines)?.with_new_piece()?.extended(rest)
     }
 
     // Returns the text with these bytes at the end of its last piece.
-    fn extended(self, bytes: &[u8]) -> Result<Pieces, AllocError>
+    fn extended(mut self, bytes: &[u8]) -> Result<Pieces, AllocError>
         ensures text { IfOk result (λ text. text ≡ self ++ bytes.now) }
         ensures fits { IfOk result (λ text. length text < 2 ^ 64) }
     {
-        let Pieces {
-            alloc,
-            len,
-            ended,
-            mut last,
-        } = self;
-        let Some(len) = len.checked_add(bytes.len()) else {
+        let Some(len) = self.len.checked_add(bytes.len()) else {
             return Err(AllocError);
         };
-        last.extend_from_slice(bytes)?;
-        Ok(Pieces {
-            alloc,
-            len,
-            ended,
-            last,
-        })
+        self.last.extend_from_slice(bytes)?;
+        self.len = len;
+        Ok(self)
     }
 
-    // Returns the text with these bytes at the end of its last piece, which a new one follows.
-    fn ended_by(self, bytes: &[u8]) -> Result<Pieces, AllocError>
-        requires { EndsLine bytes.now }
-        ensures { IfOk result (λ text. text ≡ self ++ bytes.now) }
+    // Returns the text with a new last piece, if the last one ends with a line feed.
+    fn with_new_piece(self) -> Result<Pieces, AllocError>
+        ensures { IfOk result (λ text. text ≡ self) }
     {
+        let Some((b'\n', _)) = self.last.split_last() else {
+            return Ok(self);
+        };
         let Pieces {
             alloc,
             len,
             mut ended,
-            mut last,
+            last,
         } = self;
-        let Some(len) = len.checked_add(bytes.len()) else {
-            return Err(AllocError);
-        };
-        last.extend_from_slice(bytes)?;
         ended.push(last)?;
         Ok(Pieces {
             alloc,
