@@ -1,25 +1,19 @@
 -- A map read from a text has a label table with all its labels and at most as many mappings as a text may have, and its
 -- name is a label.
-use Rattle.std.proofs.Common.{◌≡◌, ℕ, ◌+◌, ◌<◌, ◌≤◌, ◌==◌, ◌&&◌, Bool, true, false, cond, List, [], ◌∷◌, ◌++◌, All, Option, Some, None, Result, Ok, Err, IsTrue, IfOk, find, is_some, length, arith, refl, ◌∙◌, sym, subst, nat_le, nat_lt, option_and_then, option_map, unwrap_or, codes}
-use Rattle.std.specs.List.{list_all, list_any}
+use Rattle.std.proofs.Common.{◌≡◌, ℕ, ◌+◌, ◌<◌, ◌≤◌, ◌==◌, Bool, true, false, cond, List, [], ◌∷◌, ◌++◌, All, Option, Some, None, Result, Ok, Err, IsTrue, IfOk, find, length, arith, refl, ◌∙◌, sym, subst, option_and_then, option_map, unwrap_or}
+use Rattle.std.specs.List.{list_any}
 use Rattle.std.specs.Option.{ForSome}
-use Rattle.std.specs.Str.{bytes_eq}
-use Rattle.std.proofs.lemmas.Bool.{and_parts, ltb-true, or_left}
+use Rattle.std.proofs.lemmas.Bool.{ltb-true, or_left}
 use Rattle.std.proofs.lemmas.List.{length-append}
 use Rattle.std.proofs.lemmas.List.Elements.{All-contains, All-nil, All-push, All-weaker}
 use Rattle.std.proofs.lemmas.Option.{none-some, same_Some}
-use Rattle.prefix_keys.specs.Text.{AddressOf, BlockOf, address_of, block_of_text, is_digit}
-use Rattle.prefix_keys.specs.declared.text.BlockFault.{BlockFault}
-use Rattle.prefix_keys.specs.declared.text.BlockFault.TheVariants as block_faults
-use Rattle.prefix_keys.specs.declared.version.Version.{Version}
 use Rattle.pmap_model.proofs.Finds.{find_passes}
 use Rattle.pmap_model.proofs.LabelTexts.{IsLabelTable-with_label, has_label-with_label, with_label-known, with_label-new}
-use Rattle.pmap_text.proofs.MapLines.{either, whatever}
-use Rattle.pmap_text.specs.Declarations.{conflicts, declared_text, label_number, meant_text, with_declared}
+use Rattle.pmap_text.proofs.MapLines.{HoldsAfter, IsText, line-holds}
+use Rattle.pmap_text.specs.Declarations.{declared_text, label_number, meant_text, with_declared}
 use Rattle.pmap_model.specs.Label.{IsLabelTable, has_label, is_label, with_label}
-use Rattle.pmap_model.specs.Steps.{◌>>=◌}
-use Rattle.pmap_text.specs.Reading.{after_word, content_of, first_word, lines_of, Earlier, address_line, block_line, content_line, default_line, label_limit, label_line, label_of, lines_read, mapping_limit, mode_line, mode_version, no_lines, number_in, span_line, statement_line, unknown, with_text, map_reading, name_line, has_room}
-use Rattle.pmap_text.specs.Inner.{one_or_two, text_read, map_from}
+use Rattle.pmap_text.specs.Reading.{content_of, lines_of, Earlier, content_line, label_limit, lines_read, mapping_limit, no_lines, unknown, map_reading, has_room}
+use Rattle.pmap_text.specs.Inner.{text_read, map_from}
 use Rattle.pmap_model.specs.MapModel.{Label, MapModel, Mapping}
 use Rattle.pmap_text.specs.declared.fault.MapFault.{MapFault}
 use Rattle.pmap_text.specs.declared.fault.MapFaultKind.{MapFaultKind}
@@ -29,21 +23,8 @@ use Rattle.pmap_cert.proofs.FormatWhole.{no_labels}
 use Rattle.pmap_cert.proofs.Sets.{has-append}
 use Rattle.pmap_cert.proofs.Tables.{bind_ok, ok_is}
 
-abbrev IsText : Label → Type 0
-IsText x = IsTrue (is_label x)
-
 abbrev IsDeclared : ℕ × Label → Type 0
 IsDeclared d = IsText d.1
-
--- a property of a step's result carries over to what follows from it
-onward : {A B E : Type 0} (P : A → Type 0) (Q : B → Type 0) (r : Result A E) (f : A → Result B E) → IfOk r P
-    → ((x : A) → P x → IfOk (f x) Q) → IfOk (r >>= f) Q
-onward P Q (Ok x) f is each = each x is
-onward P Q (Err fault) f is each = tt
-
-label_of-text : (rest : List ℕ) → IfOk (label_of rest) IsText
-label_of-text [] = tt
-label_of-text (b ∷ bs) = either IsText (is_label (b ∷ bs)) (Ok (b ∷ bs)) _ (λ is. is) tt
 
 -- a table keeps its labels when one is added, and has the added one
 has-kept : (table : List Label) (y x : Label) → has_label table x ≡ true → has_label (with_label table y) x ≡ true
@@ -88,14 +69,6 @@ declared-more declared d all is = by (list_any (λ e. e.0 == d.0) declared)
     by true = all
     by false = All-push IsDeclared declared d all is
 
--- a line whose text is added to the table
-text-within : (room : Bool) (x : Label) (e : Earlier)
-    → (room ≡ true → has_room e.table x ≡ true → IsWithin e.name e.declared e.fallback e.mappings (with_label e.table x))
-    → IfOk (with_text room x e) AreWithin
-text-within room x e is =
-    either AreWithin (room && has_room e.table x) (Ok (record e { table = with_label e.table x })) _
-    (λ h. let parts = and_parts room (has_room e.table x) h in is parts.0 parts.1) tt
-
 module _ (e : Earlier) (so_far : AreWithin e) where
   -- the text that a label means
   meant-text : (label : Label) → IsText label → IsText (meant_text e.declared label)
@@ -115,110 +88,52 @@ module _ (e : Earlier) (so_far : AreWithin e) where
   table-kept : (x : Label) → IsText x → IsLabelTable (with_label e.table x)
   table-kept x label = let few = so_far.room in IsLabelTable-with_label e.table x so_far.table label (omega arith)
 
-  -- what is read after each kind of line
-  name-within : (rest : List ℕ) → IfOk (name_line e rest) AreWithin
-  name-within rest =
-      onward IsText AreWithin (label_of rest) _ (label_of-text rest)
-      (λ name is. record {
-        name = λ x e. subst IsText (same_Some name x e) is;
-        declared = so_far.declared;
-        fallback = so_far.fallback;
-        mappings = so_far.mappings;
-        labels = so_far.labels;
-        table = so_far.table;
-        room = so_far.room;
-      })
-
-  mode-within : (o : Option Version) → IfOk (mode_line e o) AreWithin
-  mode-within None = tt
-  mode-within (Some version) =
-      either AreWithin (nat_lt 0 (length e.mappings + length e.prefixes)) _ _ (λ _. tt)
-      (either AreWithin (is_some e.version) _ (Ok (record e { version = Some version })) (λ _. tt) so_far)
-
-  label-within : (o : Option ℕ) (rest : List ℕ) → IfOk (label_line e o rest) AreWithin
-  label-within None rest = tt
-  label-within (Some number) rest =
-      onward IsText AreWithin (label_of rest) _ (label_of-text rest)
-      (λ text is. either AreWithin (list_all is_digit text) _ _ (λ _. tt)
-      (either AreWithin (conflicts e.declared number text) _ _ (λ _. tt)
-      (text-within true text (record e { declared = with_declared e.declared (number, text) })
-      (λ _ room. record {
-        name = so_far.name;
-        declared = declared-more e.declared (number, text) so_far.declared is;
-        fallback = λ x known. has-kept e.table text x (so_far.fallback x known);
-        mappings = so_far.mappings;
-        labels = all-kept e.table text e.mappings so_far.labels;
-        table = table-kept text is;
-        room = room-kept e.table text so_far.room room;
-      }))))
-
-  default-within : (rest : List ℕ) → IfOk (default_line form.Map e rest) AreWithin
-  default-within rest =
-      onward IsText AreWithin (label_of rest) _ (label_of-text rest)
-      (λ label is. let text : Label = meant_text e.declared label in
-      text-within true text (record e { fallback = Some text })
-      (λ _ room. record {
-        name = so_far.name;
-        declared = so_far.declared;
-        fallback = λ x e'. subst (λ (y : Label). has_label (with_label e.table text) y ≡ true) (same_Some text x e') (has_label-with_label e.table text);
-        mappings = so_far.mappings;
-        labels = all-kept e.table text e.mappings so_far.labels;
-        table = table-kept text (meant-text label is);
-        room = room-kept e.table text so_far.room room;
-      }))
-
-  span-within : (version : Version) (low high : ℕ) (rest : List ℕ) → IfOk (span_line e version low high rest) AreWithin
-  span-within version low high rest =
-      onward IsText AreWithin (label_of rest) _ (label_of-text rest)
-      (λ label is. let text : Label = meant_text e.declared label in
-      let m : Mapping = record { low = low; high = high; label = text } in
-      text-within (nat_lt (length e.mappings) mapping_limit) text (record e { version = Some version; mappings = e.mappings ++ m ∷ [] })
-      (λ few room. record {
-        name = so_far.name;
-        declared = so_far.declared;
-        fallback = λ x known. has-kept e.table text x (so_far.fallback x known);
-        mappings = omega (arith, ltb-true (length e.mappings) mapping_limit few, length-append e.mappings (m ∷ []));
-        labels = All-push (HasLabel (with_label e.table text)) e.mappings m (all-kept e.table text e.mappings so_far.labels)
-            (has_label-with_label e.table text);
-        table = table-kept text (meant-text label is);
-        room = room-kept e.table text so_far.room room;
-      }))
-
-  block-within : (r : Result BlockOf BlockFault) (rest : List ℕ) → IfOk (block_line form.Map e r rest) AreWithin
-  block-within (Ok (own, first, len)) rest =
-      let version : Version = unwrap_or e.version own in
-      whatever AreWithin (number_in version (own, first)) _ (λ start. span-within version start _ rest)
-  block-within (Err block_faults.BadAddress) rest = tt
-  block-within (Err block_faults.BadLength) rest = tt
-
-  one_or_two-within : (first : AddressOf) (o : Option AddressOf) (rest : List ℕ) → IfOk (one_or_two form.Map e first o rest) AreWithin
-  one_or_two-within first None rest =
-      let version : Version = unwrap_or e.version first.0 in
-      whatever AreWithin (number_in version first) _ (λ start. span-within version start _ rest)
-  one_or_two-within first (Some second) rest =
-      let version : Version = unwrap_or e.version first.0 in
-      whatever AreWithin (number_in version first) _
-      (λ low. whatever AreWithin (number_in version second) _
-      (λ high. either AreWithin (nat_le low high) (span_line e version low high (after_word rest)) _ (λ _. span-within version low high (after_word rest)) tt))
-
-  address-within : (word : List ℕ) (o : Option AddressOf) (rest : List ℕ) → IfOk (address_line form.Map e word o rest) AreWithin
-  address-within word None rest = tt
-  address-within word (Some first) rest = one_or_two-within first (address_of (first_word rest)) rest
-
-  statement-within : (word rest : List ℕ) → IfOk (statement_line form.Map e word rest) AreWithin
-  statement-within word rest =
-      either AreWithin (bytes_eq word (codes "map-name")) (name_line e rest) _ (λ _. name-within rest)
-      (either AreWithin (bytes_eq word (codes "mode")) (mode_line e (mode_version rest)) _ (λ _. mode-within (mode_version rest))
-      (either AreWithin (bytes_eq word (codes "label")) (label_line e (label_number (first_word rest)) (after_word rest)) _
-      (λ _. label-within (label_number (first_word rest)) (after_word rest))
-      (either AreWithin (bytes_eq word (codes "default")) (default_line form.Map e rest) _ (λ _. default-within rest)
-      (either AreWithin (list_any (λ b. b == 47) word) (block_line form.Map e (block_of_text word) rest)
-      (address_line form.Map e word (address_of word) rest) (λ _. block-within (block_of_text word) rest)
-      (address-within word (address_of word) rest)))))
-
-  line-within : (content : List ℕ) → IfOk (content_line form.Map e content) AreWithin
-  line-within [] = so_far
-  line-within (b ∷ bs) = statement-within (first_word (b ∷ bs)) (after_word (b ∷ bs))
+  -- the limits are kept after each kind of line
+  within-after : HoldsAfter e AreWithin
+  within-after = record {
+    nothing = so_far;
+    name = λ name is. record {
+      name = λ x e. subst IsText (same_Some name x e) is;
+      declared = so_far.declared;
+      fallback = so_far.fallback;
+      mappings = so_far.mappings;
+      labels = so_far.labels;
+      table = so_far.table;
+      room = so_far.room;
+    };
+    mode = λ _. so_far;
+    label = λ number text is room. record {
+      name = so_far.name;
+      declared = declared-more e.declared (number, text) so_far.declared is;
+      fallback = λ x known. has-kept e.table text x (so_far.fallback x known);
+      mappings = so_far.mappings;
+      labels = all-kept e.table text e.mappings so_far.labels;
+      table = table-kept text is;
+      room = room-kept e.table text so_far.room room;
+    };
+    fallback = λ label is room. let text : Label = meant_text e.declared label in record {
+      name = so_far.name;
+      declared = so_far.declared;
+      fallback = λ x e'. subst (λ (y : Label). has_label (with_label e.table text) y ≡ true) (same_Some text x e') (has_label-with_label e.table text);
+      mappings = so_far.mappings;
+      labels = all-kept e.table text e.mappings so_far.labels;
+      table = table-kept text (meant-text label is);
+      room = room-kept e.table text so_far.room room;
+    };
+    span = λ version low high label is few room.
+        let text : Label = meant_text e.declared label in
+        let m : Mapping = record { low = low; high = high; label = text } in
+        record {
+          name = so_far.name;
+          declared = so_far.declared;
+          fallback = λ x known. has-kept e.table text x (so_far.fallback x known);
+          mappings = omega (arith, ltb-true (length e.mappings) mapping_limit few, length-append e.mappings (m ∷ []));
+          labels = All-push (HasLabel (with_label e.table text)) e.mappings m (all-kept e.table text e.mappings so_far.labels)
+              (has_label-with_label e.table text);
+          table = table-kept text (meant-text label is);
+          room = room-kept e.table text so_far.room room;
+        };
+  }
 
   -- the table of the whole map, with the default, is a label table
   whole-table : (o : Option Label) → e.fallback ≡ o → IsLabelTable (with_label e.table (unwrap_or o unknown))
@@ -240,7 +155,7 @@ within-lines : (number : ℕ) (r : Result Earlier MapFaultKind) (lines : List (L
 within-lines number (Err kind) lines within = tt
 within-lines number (Ok e) [] within = within
 within-lines number (Ok e) (line ∷ lines) within =
-    within-lines (number + 1) (content_line form.Map e (content_of line)) lines (line-within e within (content_of line))
+    within-lines (number + 1) (content_line form.Map e (content_of line)) lines (line-holds e AreWithin (within-after e within) (content_of line))
 
 -- the table, the mappings and the name of a map text
 pub record IsLimited (m : MapModel) : Type 0 where
