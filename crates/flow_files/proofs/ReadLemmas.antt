@@ -35,7 +35,6 @@ use Rattle.flow_files.specs.Outcomes.{BytesFault, Outcome, Then, labels_reading,
 use Rattle.flow_files.specs.Reports.{AreFresh, AreLabelsOf, AreRead, AreTextsBefore, Decodes, Gives, GivesAll, IsRead, IsReading, IsText, ReadsInto, faults_of, labelling_found, labelling_read}
 use Rattle.flow_files.specs.declared.labels.LabelsRead.{LabelsRead}
 use Rattle.flow_files.specs.declared.label_file.LabelFile.{LabelFile}
-use Rattle.flow_files.specs.declared.label_file.LabelFile.TheVariants.{Map}
 use Rattle.flow_files.specs.Sources.{Text}
 use Rattle.flow_files.specs.Readers.{AreReadOn, AreTexts, AreUnread, IsFaultFor, IsFaultOf, MayHave, CannotRead, File, NoMemory, Readers, RunFault, Source, any_failed, name_in, view_of}
 

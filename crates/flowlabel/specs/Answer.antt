@@ -1,5 +1,5 @@
 use Rattle.std.specs.Prelude.{◌≡◌, ◌==◌, ◌&&◌, ◌||◌, ◌∷◌, [], Bool, not, true, false, List, codes}
-use Rattle.std.specs.Prelude.{map, Option, None, Result, Ok, Err, if◌then◌else◌, is_none, ok_or}
+use Rattle.std.specs.Prelude.{Option, None, Result, Ok, Err, if◌then◌else◌, is_none, ok_or}
 use Rattle.std.specs.Str.{bytes_eq}
 use Rattle.prefix_keys.specs.Text.{address_of}
 use Rattle.pmap_model.specs.Steps.{◌>>=◌}
