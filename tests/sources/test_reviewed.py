@@ -62,8 +62,10 @@ AXIOM = re.compile(r"\baxioms?\b", re.IGNORECASE)
 CLAUSES = r" *(?:ensures|requires)\b"
 FUNCTION = re.compile(r"\s*(pub )?(?:pub\([a-z]+\) )?(?:const )?fn (\w+)")
 # What docs/PROOFS.md shows under 'What is left to read', and where it is.
-SHOWN = ("fn read(", "fn write(", "fn flush(", "fn new(", "fn note(")
-SHOWN_OF = ("flow_io/src/watch.rt", "flow_io/src/record.rt")
+SHOWN = ("fn read(", "fn write(", "fn flush(", "fn new(", "fn note(", "progress.next(")
+SHOWN_OF = ("flow_io/src/watch.rt", "flow_io/src/record.rt", "ipfix_read/src/progress.rt")
+# Uncalled functions whose contracts can't say all that they promise.
+SHOWN_WITH_BODY = ("next_message",)
 
 
 def read(path):
@@ -192,6 +194,8 @@ def contracts():
     laws = [function for function in functions() if re.match(rf"pub fn \w+\(\)\n{CLAUSES}", function.contract)]
     for function in dict.fromkeys([*outer, *laws, *uncalled()]):
         text = function.code if function.name == "main" else function.contract
+        if function.name in SHOWN_WITH_BODY:
+            text += f"\n{{{one_line(function.body)}"
         members = ghosts_of(function.kind) if function.kind else ""
         yield f"contract {function.place}", with_names(f"{text}\n{members}".strip(), function.file)
 
