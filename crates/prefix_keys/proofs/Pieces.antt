@@ -58,7 +58,7 @@ of_more f x numbers = by (all_some numbers)
     by None = refl
     by (Some xs) = refl
 
--- there is no result if there is none for lists of this length
+-- there is no result if lists of this length have no result
 none_of : (f : List ℕ → Option ℕ) (numbers : List (Option ℕ)) → ((xs : List ℕ) → length xs ≡ length numbers → f xs ≡ None) → of_all f numbers ≡ None
 none_of f [] none = none [] refl
 none_of f (None ∷ numbers) none = refl
