@@ -41,13 +41,15 @@ OUTERMOST = {"flowlabel_main/src/main.rt main", "flowlabel/src/lib.rt program", 
              "flowlabel/src/ending.rt end", "flowlabel/src/words.rt parse", "flowlabel/src/commands.rt run",
              "flow_many_main/src/main.rt main", "flow_many/src/lib.rt program", "flow_many/src/lib.rt execute",
              "flow_many/src/words.rt parse", "flow_many/src/commands.rt run"}
-# Files whose definitions are stored up to DIVIDER, and those of other files.
+# Files whose definitions are stored up to DIVIDER, and single definitions of other files.
 HEADLINE = ("flowlabel/specs/Ending", "flowlabel/specs/Headline", "flowlabel/specs/Run", "flow_files/specs/Ending",
             "flow_files/specs/Groups", "flow_files/specs/Opening", "flow_files/specs/Readers", "flow_many/specs/Ending",
             "flow_many/specs/Headline", "flow_many/specs/Joined", "flow_many/specs/Run",
             "flow_io/specs/Ahead", "flow_io/specs/Devices", "flow_io/specs/Watched", "flow_uniq/specs/Grouped",
             "pmap_stretches/specs/Runs")
-DEFINITIONS = {"pmap_cert/specs/Acceptance": ("HasBlock", "IsInOrder", "IsLeast", "begins_before"),
+DEFINITIONS = {"ipfix_read/specs/Lending": ("LeavesMessages", "row"),
+               "ipfix_read/specs/Messages": ("AnswersCall", "AnswersNext", "IsIncomplete", "is_read_fault"),
+               "pmap_cert/specs/Acceptance": ("HasBlock", "IsInOrder", "IsLeast", "begins_before"),
                "pmap_model/specs/ListModel": ("IsEquivalent",)}
 DIVIDER = "-- Below:"
 # An out-of-memory error, but no import under its own name, type, variant, comparison or text of it.
@@ -62,10 +64,8 @@ AXIOM = re.compile(r"\baxioms?\b", re.IGNORECASE)
 CLAUSES = r" *(?:ensures|requires)\b"
 FUNCTION = re.compile(r"\s*(pub )?(?:pub\([a-z]+\) )?(?:const )?fn (\w+)")
 # What docs/PROOFS.md shows under 'What is left to read', and where it is.
-SHOWN = ("fn read(", "fn write(", "fn flush(", "fn new(", "fn note(", "progress.next(")
-SHOWN_OF = ("flow_io/src/watch.rt", "flow_io/src/record.rt", "ipfix_read/src/progress.rt")
-# Uncalled functions whose contracts can't say all that they promise.
-SHOWN_WITH_BODY = ("next_message",)
+SHOWN = ("fn read(", "fn write(", "fn flush(", "fn new(", "fn note(")
+SHOWN_OF = ("flow_io/src/watch.rt", "flow_io/src/record.rt")
 
 
 def read(path):
@@ -194,8 +194,6 @@ def contracts():
     laws = [function for function in functions() if re.match(rf"pub fn \w+\(\)\n{CLAUSES}", function.contract)]
     for function in dict.fromkeys([*outer, *laws, *uncalled()]):
         text = function.code if function.name == "main" else function.contract
-        if function.name in SHOWN_WITH_BODY:
-            text += f"\n{{{one_line(function.body)}"
         members = ghosts_of(function.kind) if function.kind else ""
         yield f"contract {function.place}", with_names(f"{text}\n{members}".strip(), function.file)
 
@@ -203,7 +201,9 @@ def contracts():
 def definitions():
     """Yields the definitions of the headline: kind and place, and the text."""
     for file in (*HEADLINE, *DEFINITIONS):
-        text, parts = read(f"{file}.antt").partition(f"\n{DIVIDER}")[0], {}
+        text, parts = read(f"{file}.antt"), {}
+        if file in HEADLINE:
+            text = text.partition(f"\n{DIVIDER}")[0]
         module, opened, name, inside = Module("", None, text), "", None, 0
         for line in with_whole_lines(text).split("\n"):
             begins = BEGINS.match(line)

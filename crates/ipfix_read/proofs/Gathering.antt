@@ -1,5 +1,5 @@
 -- Headers, whatever bytes follow them, and headers whose following bytes are known.
-use Rattle.std.proofs.Common.{◌≡◌, false, ℕ, ◌<◌, ◌≤◌, List, ◌++◌, length, Some, None, inl, inr, refl, sym, ap, ◌∙◌, arith, ◌+◌, take, ◌-◌, Ok, Err, subst, length-append, Bool, true}
+use Rattle.std.proofs.Common.{◌≡◌, false, ℕ, ◌<◌, ◌≤◌, List, ◌++◌, length, Some, None, inl, inr, refl, sym, ap, ◌∙◌, arith, ◌+◌, take, ◌-◌, Ok, Err, subst, length-append, length-take, Bool, true}
 use Rattle.std.proofs.lemmas.Grind.{common_steps}
 use Rattle.std.proofs.lemmas.Bool.Decides.{nat_tests}
 use Rattle.std.proofs.lemmas.Bool.{lt-ltb, le-ltb}
@@ -136,11 +136,13 @@ module _ (o n : InputView) (count head : ℕ) (ys : List ℕ) (given : Gives o n
 
 -- the buffer then holds a message
 pub holds_message : (size : ℕ) (xs ys zs : List ℕ) → length ys ≡ 16 → size ≡ 16 + length zs → size ≤ 65535 → big_number 2 (head_of xs ys) ≡ 10 → size ≡ written_length (head_of xs ys)
-    → HasHeader (take size (both_in size xs ys zs))
+    → HasHeader (take size (both_in size xs ys zs)) × (size ≤ length (both_in size xs ys zs))
 holds_message size xs ys zs sixteen all most version written =
     let parts = two_parts size xs ys zs sixteen all in
     let many : length (ys ++ zs) ≡ size = omega (arith, length-append ys zs, sixteen, all) in
     let ten : big_number 2 (ys ++ zs) ≡ 10 =
     number_ahead ys zs (omega (arith, sixteen)) ∙ ap (λ (l : List ℕ). big_number 2 l) (sym (head_is xs ys sixteen)) ∙ version in
-    let lengths : written_length (ys ++ zs) ≡ length (ys ++ zs) = same_length xs ys zs sixteen ∙ sym written ∙ sym many in
-    subst (λ (l : List ℕ). HasHeader l) (sym parts) (record { least = omega (arith, many, all); most = omega (arith, many, most); version = ten; whole = lengths })
+    let lengths : written_length (ys ++ zs) ≡ length (ys ++ zs) = same_length xs ys zs sixteen ∙ sym written ∙ sym many in (
+      subst (λ (l : List ℕ). HasHeader l) (sym parts) (record { least = omega (arith, many, all); most = omega (arith, many, most); version = ten; whole = lengths }),
+      omega (arith, length-take size (both_in size xs ys zs), ap length parts, many),
+    )

@@ -1,12 +1,14 @@
 -- The result of a call for a message, from what it gathered and read.
-use Rattle.std.proofs.Common.{◌≡◌, ◌∙◌, ℕ, ◌+◌, ◌<◌, List, ◌++◌, length, Bool, Option, None, Some, Result, Ok, Err, inl, inr, refl, sym, subst, ap, append_assoc, arith, length-append, [], ◌∷◌}
-use Rattle.flow_io.specs.Devices.{InputView, ReadsInput}
+use Rattle.std.proofs.Common.{◌≡◌, ◌∙◌, ℕ, ◌+◌, ◌<◌, List, ◌++◌, length, Option, None, Some, Result, Ok, Err, inl, inr, refl, sym, subst, ap, append_assoc, arith, rules, length-append, length-take, [], ◌∷◌}
+use Rattle.flow_io.specs.Devices.{InputView, has_ended}
 use Rattle.flow_io.proofs.Moving.{gives_more, gives_none}
-use Rattle.std.specs.Prelude.{fold}
+use Rattle.std.specs.Prelude.{◌≤◌, fold, take}
 use Rattle.std.specs.Result.{result_map_both}
 use Rattle.std.proofs.lemmas.List.{length_push, map-append}
-use Rattle.ipfix_read.specs.Message.{ReadFault, ReadFaultKind, MessageView, HasHeader, after_message, message_next, whole_reading}
-use Rattle.ipfix_read.specs.Messages.{Going, Ended, Failed, ProgressView, AnswersNext, Gathers, messages_from, messages_in, placed_from}
+use Rattle.ipfix_read.specs.Message.{ReadFault, MessageView, HasHeader, after_message, message_next, whole_reading}
+use Rattle.ipfix_read.specs.declared.progress.State.{State}
+use Rattle.ipfix_read.specs.Fault.{failed_before}
+use Rattle.ipfix_read.specs.Messages.{Going, Failed, ProgressView, AnswersCall, Decodes, GathersCall, messages_from, messages_in, placed_from}
 use Rattle.ipfix_read.specs.Set.{ReadsUnder}
 use Rattle.ipfix_templates.specs.declared.table.TemplateTable.{TemplateTable}
 use Rattle.ipfix_templates.specs.InForce.{template_at}
@@ -16,57 +18,76 @@ use Rattle.ipfix_read.specs.Laws.{CallsJoinFile, CallsStart}
 use Rattle.ipfix_read.proofs.Sets.{after_more}
 use Rattle.ipfix_read.proofs.Readings.{front_read, message_cut, messages_fault, placed_are_messages, placed_end, placed_more, stops_after, without_offsets}
 
--- The results, by the parts of the state between two calls, which are the view of the old state.
-module _ {view old : ProgressView} (same : view ≡ old) (o n : InputView) (ended : Bool) where
-  by_taken : (gathered : Result (Option (List ℕ)) ReadFaultKind) (answer : Result (Option MessageView) ReadFault) (new : ProgressView) → ReadsInput o n (Gathers view.count gathered ended)
-      → ((taken : List ℕ) → Gathers view.count gathered ended taken → AnswersNext view answer new ended taken) → ReadsInput o n (AnswersNext old answer new ended)
-  by_taken gathered answer new is step = subst (λ (p : ProgressView). ReadsInput o n (AnswersNext p answer new ended)) same (is.0, is.1, step is.0 is.2)
-
-  pub answers_end : ReadsInput o n (Gathers view.count (Ok None) ended) → ReadsInput o n (AnswersNext old (Ok None) (record view { state = Ended }) ended)
-  answers_end is = by_taken (Ok None) (Ok None) (record view { state = Ended }) is (λ taken none. (none.0, none.1, refl))
+-- The results for what was read to the start of a buffer, by the parts of the state between two calls, whose view is the old state.
+module _ {view old : ProgressView} (same : view ≡ old) (buffer : List ℕ) where
+  by_view : (found : Result (Option ℕ) ReadFault) (result : Result (Option MessageView) ReadFault) (new : ProgressView) → Decodes view buffer found result new → Decodes old buffer found result new
+  by_view found result new = subst (λ (p : ProgressView). Decodes p buffer found result new) same
 
   -- a fault of the header, or of the reader
-  pub answers_fault_of_header : (kind : ReadFaultKind) → ReadsInput o n (Gathers view.count (Err kind) ended)
-      → ReadsInput o n (AnswersNext old (Err (record { kind = kind; offset = view.offset })) (record view { state = Failed }) ended)
-  answers_fault_of_header kind is =
-      by_taken (Err kind) (Err (record { kind = kind; offset = view.offset })) (record view { state = Failed }) is (λ taken there. (
-        refl,
-        elim there [
-          | inl unread ↦ let e = unread.0 in inr (inl (λ i. record { kind = e i; offset = view.offset }, unread.1))
-          | inr found ↦ inr (inr (found.0, found.1, λ rest follows. message_cut (template_at view.table) view.count view.offset (taken ++ rest) kind (found.2 rest follows)))
-        ],
-      ))
+  pub decodes_fault : (fault : ReadFault) → Decodes old buffer (Err fault) (Err fault) (record view { state = Failed })
+  decodes_fault fault = by_view (Err fault) (Err fault) (record view { state = Failed }) (record {
+    answers = λ ended taken there. (
+      refl,
+      elim there.0 [
+        | inl unread ↦ inr (inl (λ i. record { kind = unread.0 i; offset = there.1 i }, unread.1))
+        | inr found ↦ inr (inr (
+          found.0,
+          found.1,
+          λ rest follows.
+              message_cut (template_at view.table) view.count view.offset (taken ++ rest) fault.kind (found.2 rest follows)
+              ∙ ap (λ (o : ℕ). Err (record { kind = fault.kind; offset = o })) (sym there.1),
+        ))
+      ],
+    );
+    none = λ e. search rules;
+    fault = λ f e. (cc, refl);
+    device = refl;
+    counted = tt;
+  })
 
-  module _ (front : List ℕ) (is : ReadsInput o n (Gathers view.count (Ok (Some front)) ended)) (counted : view.count < 4294967295) (header : HasHeader front) where
-    -- the message that was gathered, whatever follows it
-    there_read : (taken rest : List ℕ) → front ≡ taken
-        → message_next (template_at view.table) view.count view.offset (taken ++ rest) ≡ result_map_both (λ m. (m, rest)) (λ fault. fault) (whole_reading (template_at view.table) view.offset front)
+  module _ (size : ℕ) (counted : old.count < 4294967295) (header : HasHeader (take size buffer)) where
+    few : view.count < 4294967295
+    few = subst (λ (p : ProgressView). p.count < 4294967295) (sym same) counted
+
+    -- the message that was read, whatever follows it
+    there_read : (taken rest : List ℕ) → take size buffer ≡ taken
+        → message_next (template_at view.table) view.count view.offset (taken ++ rest)
+        ≡ result_map_both (λ m. (m, rest)) (λ fault. fault) (whole_reading (template_at view.table) view.offset (take size buffer))
     there_read taken rest there =
         ap (λ (l : List ℕ). message_next (template_at view.table) view.count view.offset (l ++ rest)) (sym there)
-        ∙ front_read (template_at view.table) view.count view.offset front rest counted header
+        ∙ front_read (template_at view.table) view.count view.offset (take size buffer) rest few header
 
-    -- a fault of the sets, or a failed allocation
-    pub answers_fault_of_sets : (fault : ReadFault) (table : TemplateTable) → ReadsUnder view.table table after_message (whole_reading (template_at view.table) view.offset front) (Err fault)
-        → ReadsInput o n (AnswersNext old (Err fault) (record view { state = Failed }) ended)
-    answers_fault_of_sets fault table refused =
-        by_taken (Ok (Some front)) (Err fault) (record view { state = Failed }) is (λ taken there. (
-          refl,
-          elim refused.1 [
-            | inl memory ↦ inl memory
-            | inr found ↦ inr (inr (refused.0, omega (arith, ap length there, header.least), λ rest _. there_read taken rest there ∙ rw found refl))
-          ],
-        ))
+    pub decodes_message : (table : TemplateTable) (m : MessageView)
+        → ReadsUnder view.table table after_message (whole_reading (template_at view.table) view.offset (take size buffer)) (Ok m) → size ≤ length buffer
+        → Decodes old buffer (Ok (Some size)) (Ok (Some m)) (record { table = table; offset = view.offset + size; count = view.count + 1; state = Going })
+    decodes_message table m read within = by_view (Ok (Some size)) (Ok (Some m)) (record { table = table; offset = view.offset + size; count = view.count + 1; state = Going }) (record {
+      answers = λ ended taken there. (
+        (λ rest. there_read taken rest there.0 ∙ rw read.0 refl),
+        read.1,
+        ap (λ (k : ℕ). view.offset + k) (sym (omega (arith, length-take size buffer, within)) ∙ ap length there.0),
+        refl,
+        refl,
+      );
+      none = λ e. search rules;
+      fault = λ f e. search rules;
+      device = refl;
+      counted = (refl, omega (arith, few), refl);
+    })
 
-    pub answers_message : (new : ProgressView) (m : MessageView) → ReadsUnder view.table new.table after_message (whole_reading (template_at view.table) view.offset front) (Ok m)
-        → new.offset ≡ view.offset + length front → new.count ≡ view.count + 1 → new.state ≡ Going → ReadsInput o n (AnswersNext old (Ok (Some m)) new ended)
-    answers_message new m read offset count state =
-        by_taken (Ok (Some front)) (Ok (Some m)) new is (λ taken there. (
-          (λ rest. there_read taken rest there ∙ rw read.0 refl),
-          read.1,
-          offset ∙ ap (λ (l : List ℕ). view.offset + length l) there,
-          count,
-          state,
-        ))
+-- A call for a message has the result for what it read.
+pub answers_call : {R : Type 0} (input : R → InputView) (old : ProgressView) (from : R) (buffer : List ℕ) (found : Result (Option ℕ) ReadFault)
+    (then : R) (result : Result (Option MessageView) ReadFault) (new : ProgressView)
+    → GathersCall input old from buffer found then → Decodes old buffer found result new → AnswersCall input old from result new then
+answers_call input old from buffer found then result new gathers decodes = record {
+  going = λ going. let read = gathers.going going in (read.0, read.1, decodes.answers (has_ended (input then)) read.0 read.2);
+  ended = λ ended.
+      let none = gathers.ended ended in let is = decodes.none none.0 in
+      (is.0, is.1 ∙ ap (λ (s : State). record old { state = s }) (sym ended), none.1);
+  failed = λ failed.
+      let fault = gathers.failed failed in let is = decodes.fault failed_before fault.0 in
+      (is.0, is.1 ∙ ap (λ (s : State). record old { state = s }) (sym failed), fault.1);
+  device = λ none. gathers.device none ∙ sym decodes.device;
+}
 
 -- ---- calls for messages join to the whole File
 

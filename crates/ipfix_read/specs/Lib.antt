@@ -5,4 +5,5 @@ pub mod WholeRecords
 pub mod Set
 pub mod Message
 pub mod Messages
+pub mod Lending
 pub mod Laws

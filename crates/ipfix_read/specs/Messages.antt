@@ -1,15 +1,17 @@
 use Rattle.std.specs.Prelude.{◌≡◌, ℕ, ◌+◌, ◌<◌, List, [], ◌++◌, length, None, ◌⊎◌, Bool, true}
-use Rattle.std.specs.Prelude.{false, ◌∷◌, Option, Some, Result, Ok, Err, IfErr, ◌==◌, fold, map}
+use Rattle.std.specs.Prelude.{false, ◌∷◌, Option, Some, Result, Ok, Err, IfErr, ◌==◌, fold, map, take, option_map}
+use Rattle.std.specs.Prelude.{◌≤◌, IfOk, IfSome, OnSome}
 use Rattle.std.specs.Result.{result_map_both}
 use Rattle.flow_io.specs.Devices.{InputView, MayFollow, ReadsInput, Gives, has_ended}
 use Rattle.ipfix_templates.specs.Reading.{after_items, items_from}
 use Rattle.ipfix_templates.specs.declared.table.TemplateTable.{TemplateTable}
 use Rattle.ipfix_templates.specs.InForce.{InForce, no_templates, template_at}
 use Rattle.ipfix_read.specs.Message.{ReadFault, MessageView, header_fault, message_next, after_message, ReadFaultKind}
+use Rattle.ipfix_read.specs.Message.{HasHeader}
 use Rattle.ipfix_read.specs.declared.fault.ReadFaultKind.TheVariants.{ReadFault as Unread}
 use Rattle.ipfix_read.specs.declared.progress.State.{State}
 pub use Rattle.ipfix_read.specs.declared.progress.State.TheVariants.{Ended, Failed, Going}
-use Rattle.ipfix_read.specs.Fault.{out_of_memory, read_fault, is_of_calls}
+use Rattle.ipfix_read.specs.Fault.{failed_before, out_of_memory, read_fault, is_of_calls}
 use Rattle.ipfix_read.specs.Fault.{is_of_reader, TruncatedHeader, TruncatedMessage}
 
 -- Files (RFC 5655): consecutive messages.
@@ -117,6 +119,57 @@ Gathers count (Err kind) ended taken =
     ((kind ≡ Unread) × IsIncomplete count taken)
     ⊎ ((is_of_calls kind ≡ false) × (0 < length taken)
     × ((rest : List ℕ) → MayFollow ended rest → header_fault count (taken ++ rest) ≡ Some kind))
+
+-- The bytes of the message of this length at the start of a buffer, if there is one.
+abbrev pub front_in : List ℕ → Option ℕ → Option (List ℕ)
+front_in buffer = option_map (λ size. take size buffer)
+
+-- A message of the length that was found is at the start of a buffer, after `count` messages.
+abbrev pub HoldsMessage : {E : Type 0} → ℕ → List ℕ → Result (Option ℕ) E → Type 0
+HoldsMessage count buffer found = IfOk found (λ next. IfSome next (λ size.
+    HasHeader (take size buffer) × (size ≤ length buffer) × (count < 4294967295)))
+
+-- The message that was read to the start of a buffer has the taken bytes, there is none, or this is the fault of its
+-- header or of the reader.
+abbrev pub GathersAt : ProgressView → List ℕ → Result (Option ℕ) ReadFault → Bool → List ℕ → Type 0
+GathersAt now buffer found ended taken =
+    Gathers now.count (result_map_both (front_in buffer) (λ fault. fault.kind) found) ended taken
+    × IfErr found (λ fault. fault.offset ≡ now.offset)
+
+-- The result for what was read to the start of a buffer, and the state after it, whatever bytes were taken for it.
+pub record Decodes (old : ProgressView) (buffer : List ℕ) (found : Result (Option ℕ) ReadFault)
+    (result : Result (Option MessageView) ReadFault) (new : ProgressView) : Type 0 where
+  pub answers : (ended : Bool) (taken : List ℕ) → GathersAt old buffer found ended taken
+      → AnswersNext old result new ended taken
+  pub none : found ≡ Ok None → (result ≡ Ok None) × (new ≡ record old { state = Ended })
+  pub fault : (fault : ReadFault) → found ≡ Err fault
+      → (result ≡ Err fault) × (new ≡ record old { state = Failed })
+  pub device : is_read_fault result ≡ is_read_fault found
+  pub counted : IfOk result (λ next. OnSome next ((new.count ≡ old.count + 1)
+      × (new.count ≤ 4294967295) × (new.state ≡ Going)))
+
+-- What a call does with a reader that has this view.
+module _ {R : Type 0} (input : R → InputView) where
+  -- What a call in this state has read to the start of a buffer. After the end of the File, or a fault, it reads
+  -- nothing.
+  pub record GathersCall (now : ProgressView) (old : R) (buffer : List ℕ) (found : Result (Option ℕ) ReadFault)
+      (new : R) : Type 0 where
+    pub going : now.state ≡ Going
+        → ReadsInput (input old) (input new) (GathersAt now buffer found (has_ended (input new)))
+    pub ended : now.state ≡ Ended → (found ≡ Ok None) × (new ≡ old)
+    pub failed : now.state ≡ Failed → (found ≡ Err failed_before) × (new ≡ old)
+    pub device : (input old).failed ≡ false → (input new).failed ≡ is_read_fault found
+
+  -- A call for a message in each state: its result, the state after it, and what it read. After the end it returns that
+  -- there is no message, and after a fault it returns that it failed before; then it reads nothing and changes nothing.
+  -- The fault is that of a reader exactly if a read failed.
+  pub record AnswersCall (old : ProgressView) (from : R) (result : Result (Option MessageView) ReadFault)
+      (new : ProgressView) (then : R) : Type 0 where
+    pub going : old.state ≡ Going
+        → ReadsInput (input from) (input then) (AnswersNext old result new (has_ended (input then)))
+    pub ended : old.state ≡ Ended → (result ≡ Ok None) × (new ≡ old) × (then ≡ from)
+    pub failed : old.state ≡ Failed → (result ≡ Err failed_before) × (new ≡ old) × (then ≡ from)
+    pub device : (input from).failed ≡ false → (input then).failed ≡ is_read_fault result
 
 -- The calls of reading that began under these templates in force, after this number of messages and at this offset.
 module _ (templates : InForce) (count offset : ℕ) where

@@ -31,7 +31,7 @@ mod value;
 pub use fault::{ReadFault, ReadFaultKind};
 pub use laws::{calls_join_file, file_after_file, first_message_and_rest, placed_are_messages};
 pub use message::{FileEvents, Message, read_file};
-pub use progress::{Buffer, Messages, Progress, State};
+pub use progress::{Buffer, Kept, Messages, Progress, State};
 pub use record::{Record, RecordList, Records};
 pub use set::Set;
 pub use value::{FieldValue, FieldValues, Values, skip_runs};

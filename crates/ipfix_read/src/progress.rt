@@ -1,13 +1,11 @@
 //! Reading a File message by message.
-ghost use Rattle.std.specs.Prelude.{◌≡◌, ◌<◌, ◌≤◌, ◌+◌, Ok, Err, None, false, IfOk, IfSome};
-ghost use Rattle.std.specs.Prelude.{MatchResult, OnSome, length, option_map, vec_len};
-ghost use Rattle.flow_io.specs.Devices.{InputView, ReadsInput, has_ended};
+ghost use Rattle.std.specs.Prelude.{◌≡◌, ◌<◌, ◌≤◌, ◌+◌, false, IfOk, MatchResult, OnSome, length, vec_len};
+ghost use Rattle.flow_io.specs.Devices.{ReadsInput, has_ended};
 ghost use Rattle.std.specs.Result.{result_map_both};
 ghost use Rattle.ipfix_templates.specs.InForce.{no_templates};
-ghost use Rattle.ipfix_read.specs.Fault.{failed_before, is_of_reader};
-ghost use Rattle.ipfix_read.specs.Message.{HasHeader};
-ghost use Rattle.ipfix_read.specs.Messages.{Going, Ended, Failed, AnswersNext, Gathers};
-ghost use Rattle.ipfix_read.specs.Messages.{ProgressView, IsAt, is_read_fault};
+ghost use Rattle.ipfix_read.specs.Fault.{is_of_reader};
+ghost use Rattle.ipfix_read.specs.Messages.{Going, AnswersCall, Decodes, Gathers, GathersCall, HoldsMessage};
+ghost use Rattle.ipfix_read.specs.Messages.{ProgressView, IsAt, front_in};
 
 use crate::fault::{ReadFault, ReadFaultKind};
 use crate::message::{MESSAGE_HEADER, Message, header_length, whole_message};
@@ -32,21 +30,27 @@ impl Buffer {
         let bytes = vec![in alloc; 0u8; LONGEST_MESSAGE]?;
         Ok(Buffer { bytes })
     }
+
+    // Returns the bytes, of which a message that was read is the first part.
+    fn bytes(&self) -> &[u8]
+        ensures { result.now ≡ self.now.bytes.items }
+    {
+        self.bytes.as_slice()
+    }
 }
 
-// Reads the next message, which follows `count` messages, to the start of a buffer, and returns its bytes: first its
+// Reads the next message, which follows `count` messages, to the start of a buffer, and returns its length: first its
 // header, then the rest of the length that the header gives. Returns `None` at the end of the input.
-fn gather<'b, R: Input>(
+fn gather<R: Input>(
     reader: &mut R,
     count: u32,
-    buffer: &'b mut [u8],
-) -> Result<Option<&'b [u8]>, ReadFaultKind>
+    buffer: &mut [u8],
+) -> Result<Option<usize>, ReadFaultKind>
     requires { length buffer.old ≡ 65535 }
     ensures gathers { ReadsInput (R.input reader.old) (R.input reader.new)
-        (Gathers count (result_map_both (option_map (λ bytes. bytes.now)) (λ kind. kind) result)
+        (Gathers count (result_map_both (front_in buffer.new) (λ kind. kind) result)
         (has_ended (R.input reader.new))) }
-    ensures whole { IfOk result (λ next. IfSome next (λ bytes. HasHeader bytes.now)) }
-    ensures counted { IfOk result (λ next. OnSome next (count < 4294967295)) }
+    ensures whole { HoldsMessage count buffer.new result }
     ensures device { (R.input reader.old).failed ≡ false → MatchResult result
         (λ _. (R.input reader.new).failed ≡ false) (λ kind. (R.input reader.new).failed ≡ is_of_reader kind) }
 {
@@ -59,7 +63,7 @@ fn gather<'b, R: Input>(
     if fill(reader, &mut buffer[MESSAGE_HEADER..size])? < size - MESSAGE_HEADER {
         return Err(ReadFaultKind::TruncatedMessage);
     }
-    Ok(Some(&buffer[..size]))
+    Ok(Some(size))
 }
 
 /// Whether a call for the next message may return one.
@@ -120,6 +124,25 @@ impl Progress {
         self.offset
     }
 
+    // Reads the next message to the start of a buffer, and returns its length. Returns `None` at the end of the File,
+    // and `Failed` after a fault.
+    fn gather<R: Input>(
+        &self,
+        reader: &mut R,
+        buffer: &mut Buffer,
+    ) -> Result<Option<usize>, ReadFault>
+        ensures call { GathersCall R.input self.now reader.old buffer.new.bytes.items result reader.new }
+        ensures whole { HoldsMessage self.now.count buffer.new.bytes.items result }
+    {
+        match self.state {
+            State::Going => gather(reader, self.count, buffer.bytes.as_mut_slice()).map_err(
+                |kind| kind.at(self.offset),
+            ),
+            State::Ended => Ok(None),
+            State::Failed => Err(ReadFaultKind::Failed.at(0)),
+        }
+    }
+
     /// Returns the next message of the File, which borrows from the buffer. Returns `None` at the end of the File and
     /// in each call after it. The reader is asked for the missing bytes of the message's header, then for the missing
     /// bytes of the message, and for no others.
@@ -133,78 +156,143 @@ impl Progress {
         reader: &mut R,
         buffer: &'b mut Buffer,
     ) -> Result<Option<Message<'b>>, ReadFault>
-        ensures going { self.old.state ≡ Going → ReadsInput (R.input reader.old) (R.input reader.new)
-            (AnswersNext self.old result self.new (has_ended (R.input reader.new))) }
-        ensures ended { self.old.state ≡ Ended
-            → (result ≡ Ok None) × (self.new ≡ self.old) × (reader.new ≡ reader.old) }
-        ensures failed { self.old.state ≡ Failed
-            → (result ≡ Err failed_before) × (self.new ≡ self.old) × (reader.new ≡ reader.old) }
+        ensures call { AnswersCall R.input self.old reader.old result self.new reader.new }
 
-        // `counted` says less than `going`, in a form that is simpler to use.
+        // `counted` says less than `call`, in a form that is simpler to use.
         ensures counted { IfOk result (λ next. OnSome next ((self.new.count ≡ self.old.count + 1)
             × (self.new.count ≤ 4294967295) × (self.new.state ≡ Going))) }
-        ensures device { (R.input reader.old).failed ≡ false → (R.input reader.new).failed ≡ is_read_fault result }
     {
-        match self.state {
-            State::Going => {}
-            State::Ended => return Ok(None),
-            State::Failed => return Err(ReadFaultKind::Failed.at(0)),
+        let found = self.gather(reader, &mut *buffer);
+        let bytes = buffer.bytes();
+        Decoder {
+            progress: self,
+            bytes,
         }
+        .decode(found)
+    }
+}
+
+// What a message is decoded with: the state between two calls, and the bytes of the buffer, from which the message
+// borrows.
+struct Decoder<'p, 'b> {
+    progress: &'p mut Progress,
+    bytes: &'b [u8],
+}
+
+impl<'b> Decoder<'_, 'b> {
+    // Decodes the message that was read to the start of the buffer, and changes the state to that after it.
+    fn decode(
+        self,
+        found: Result<Option<usize>, ReadFault>,
+    ) -> Result<Option<Message<'b>>, ReadFault>
+        requires { HoldsMessage self.progress.now.count self.bytes.now found }
+        ensures { Decodes self.entry.progress.now self.entry.bytes.now found result self.exit.0.now }
+    {
+        let Decoder { progress, bytes } = self;
         // The state stays `Failed` unless a message or the end of the File is returned.
-        self.state = State::Failed;
-        let bytes = match gather(reader, self.count, buffer.bytes.as_mut_slice()) {
-            Ok(Some(bytes)) => bytes,
+        progress.state = State::Failed;
+        let size = match found {
+            Ok(Some(size)) => size,
             Ok(None) => {
-                self.state = State::Ended;
+                progress.state = State::Ended;
                 return Ok(None);
             }
-            Err(kind) => return Err(kind.at(self.offset)),
+            Err(fault) => return Err(fault),
         };
-        let message = whole_message(self.alloc, &mut self.table, bytes, self.offset)?;
-        self.state = State::Going;
-        self.count += 1;
-        self.offset += bytes.len() as u64;
+        let message = whole_message(
+            progress.alloc,
+            &mut progress.table,
+            &bytes[..size],
+            progress.offset,
+        )?;
+        progress.state = State::Going;
+        progress.count += 1;
+        progress.offset += size as u64;
         Ok(Some(message))
     }
 }
 
-/// The messages of a File, read from a reader one at a time into one buffer from which the message borrows. The
-/// contract of `Progress::next` specifies the state after a call, part by part. The parts that own memory are type
-/// parameters, so that a caller knows the final state of its reader.
-pub struct Messages<'r, R, P: Drop = Progress, B: Drop = Buffer> {
-    /// The reader of the File.
-    pub reader: &'r mut R,
-    /// The state between two calls.
-    pub progress: P,
+/// What `Messages` keeps between two calls.
+#[derive(Drop)]
+pub struct Kept {
+    /// The state.
+    pub progress: Progress,
     /// The bytes of the last message.
-    pub buffer: B,
+    pub buffer: Buffer,
 }
 
-impl<R, P: Drop, B: Drop> Drop for Messages<'_, R, P, B> {
-    fn drop(self)
-        ensures { self.exit.0.now ≡ self.entry.reader.now }
+impl Kept {
+    ghost use Rattle.std.specs.Borrow.{sem};
+    ghost use Rattle.ipfix_read.specs.Lending.{LendsProgress};
+
+    // Lends what the next message is decoded with.
+    fn decoder(&mut self) -> Decoder<'_, '_>
+        ensures* lends { sem 𝓛 (LendsProgress self.entry result) }
+        ensures progress { result.progress.now ≡ self.old.progress }
+        ensures bytes { result.bytes.now ≡ self.old.buffer.bytes.items }
     {
-        let Messages {
-            reader: _,
-            progress: _,
-            buffer: _,
-        } = self;
+        let bytes = self.buffer.bytes();
+        Decoder {
+            progress: &mut self.progress,
+            bytes,
+        }
     }
 }
 
-impl<'r, R: Input> Messages<'r, R, Progress, Buffer> {
+/// The messages of a File, read from a reader one at a time into one buffer from which the message borrows. What owns
+/// memory is a type parameter, so that a caller knows the final state of its reader.
+pub struct Messages<'r, R, K: Drop = Kept> {
+    /// The reader of the File.
+    pub reader: &'r mut R,
+    /// What is kept between two calls.
+    pub kept: K,
+}
+
+impl<R, K: Drop> Drop for Messages<'_, R, K> {
+    fn drop(self)
+        ensures { self.exit.0.now ≡ self.entry.reader.now }
+    {
+        let Messages { reader: _, kept: _ } = self;
+    }
+}
+
+impl<'r, R: Input> Messages<'r, R, Kept> {
+    ghost use Rattle.std.specs.Borrow.{sem};
+    ghost use Rattle.ipfix_read.specs.Lending.{LeavesMessages, LendsProgressOf};
+
     /// Returns the messages of the File that the reader will still return. The buffer is allocated, and nothing is
     /// read.
     pub fn new(alloc: Global, reader: &'r mut R) -> Result<Self, AllocError>
         ensures same_reference { IfOk result (λ m. m.reader.ghost_name ≡ reader.entry.ghost_name) }
         ensures reader { IfOk result (λ m. m.reader.now ≡ reader.old) }
-        ensures begins { IfOk result (λ m. IsAt no_templates 0 0 m.progress) }
+        ensures begins { IfOk result (λ m. IsAt no_templates 0 0 m.kept.progress) }
     {
-        Ok(Messages {
-            reader,
+        let kept = Kept {
             progress: Progress::new(alloc),
             buffer: Buffer::new(alloc)?,
-        })
+        };
+        Ok(Messages { reader, kept })
+    }
+
+    // Reads the next message to the start of the buffer, and returns its length, as `Progress::gather` does.
+    fn gather(&mut self) -> Result<Option<usize>, ReadFault>
+        ensures same_reference { self.new.reader.ghost_name ≡ self.old.reader.ghost_name }
+        ensures progress { self.new.kept.progress ≡ self.old.kept.progress }
+        ensures call { GathersCall R.input self.old.kept.progress self.old.reader.now
+            self.new.kept.buffer.bytes.items result self.new.reader.now }
+        ensures whole { HoldsMessage self.new.kept.progress.count self.new.kept.buffer.bytes.items result }
+    {
+        let Kept { progress, buffer } = &mut self.kept;
+        progress.gather(&mut *self.reader, buffer)
+    }
+
+    // Lends what the next message is decoded with.
+    fn decoder(&mut self) -> Decoder<'_, '_>
+        ensures* lends { sem 𝓛 (LendsProgressOf R.row self.entry result) }
+        ensures progress { result.progress.now ≡ self.old.kept.progress }
+        ensures bytes { result.bytes.now ≡ self.old.kept.buffer.bytes.items }
+    {
+        self.kept.decoder()
     }
 
     /// Returns the next message, whose values are slices of the buffer. Returns `None` at the end of the File and in
@@ -214,18 +302,12 @@ impl<'r, R: Input> Messages<'r, R, Progress, Buffer> {
     ///
     /// The errors are those of `Progress::next`.
     pub fn next_message(&mut self) -> Result<Option<Message<'_>>, ReadFault>
-        ensures going { self.old.progress.state ≡ Going → (new : ProgressView) × (then : InputView)
-            × ReadsInput (R.input self.old.reader.now) then
-            (AnswersNext self.old.progress result new (has_ended then))
-            × ((R.input self.old.reader.now).failed ≡ false → then.failed ≡ is_read_fault result) }
-        ensures ended { self.old.progress.state ≡ Ended → result ≡ Ok None }
-        ensures failed { self.old.progress.state ≡ Failed → result ≡ Err failed_before }
+        // This is about `self` as it is once the message is dropped.
+        ensures* leaves { sem 𝓛 (LeavesMessages R.row self.entry R.input result) }
+        ensures found { (new : ProgressView) × (then : R)
+            × AnswersCall R.input self.old.kept.progress self.old.reader.now result new then }
     {
-        let Messages {
-            reader,
-            progress,
-            buffer,
-        } = self;
-        progress.next(&mut **reader, buffer)
+        let found = self.gather();
+        self.decoder().decode(found)
     }
 }

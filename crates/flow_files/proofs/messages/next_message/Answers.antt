@@ -16,10 +16,10 @@ pub returns-in-Ok-clause-reads : goal.returns-in-Ok-clause-reads
 returns-in-Ok-clause-reads g c = λ start messages so_far.
     let had = rw c.in-Some.is at so_far in
     next_read c.calls_join_file.ensures.join g.R.Input.input start messages c.args.progress.now c.next.new.self (Some c.in-Some.source) (Some (record c.in-Some.source { reader = c.next.new.reader }))
-    had c.in-Ok.message (c.in-Ok.ensures.going had.going) c.in-Ok.ensures.counted (c.in-Ok.ensures.device had.works) refl
+    had c.in-Ok.message (c.in-Ok.ensures.call.going had.going) c.in-Ok.ensures.counted (c.in-Ok.ensures.call.device had.works) refl
 
 pub returns-in-Err-clause-reads : goal.returns-in-Err-clause-reads
 returns-in-Err-clause-reads g c = λ start messages so_far.
     let had = rw c.in-Some.is at so_far in
     with_fault c.calls_join_file.ensures.join g.R.Input.input start messages c.args.progress.now c.next.new.self (Some c.in-Some.source) (Some (record c.in-Some.source { reader = c.next.new.reader }))
-    had c.in-Err.fault c.fault_of.result c.fault_of.ensures (c.in-Err.ensures.going had.going) (c.in-Err.ensures.device had.works)
+    had c.in-Err.fault c.fault_of.result c.fault_of.ensures (c.in-Err.ensures.call.going had.going) (c.in-Err.ensures.call.device had.works)

@@ -18,10 +18,9 @@ returns-clause-gathers g c =
 
 pub returns-clause-whole : goal.returns-clause-whole
 returns-clause-whole g c =
-    holds_message c.in_ok-size.size c.args.buffer.now c.fill.new.bytes c.fill-2.new.bytes (omega (arith, length-take 16 c.args.buffer.now)) (search rules) c.in_ok-size.ensures.most (own_sound c.args.count (head_of c.args.buffer.now c.fill.new.bytes) c.in_ok-size.ensures.ok).version c.in_ok-size.ensures.whole
-
-pub returns-clause-counted : goal.returns-clause-counted
-returns-clause-counted g c = (own_sound c.args.count (head_of c.args.buffer.now c.fill.new.bytes) c.in_ok-size.ensures.ok).counted
+    let own = own_sound c.args.count (head_of c.args.buffer.now c.fill.new.bytes) c.in_ok-size.ensures.ok in
+    let held = holds_message c.in_ok-size.size c.args.buffer.now c.fill.new.bytes c.fill-2.new.bytes (omega (arith, length-take 16 c.args.buffer.now)) (search rules) c.in_ok-size.ensures.most own.version c.in_ok-size.ensures.whole in
+    (held.0, held.1, own.counted)
 
 pub returns-in_err-fill-2 : goal.returns-in_err-fill-2
 returns-in_err-fill-2 g c =
@@ -30,7 +29,6 @@ returns-in_err-fill-2 g c =
       gathers = unread_rest _ _ c.args.count _ c.fill.new.bytes c.in_ok-fill.ensures.given c.args.buffer.now (omega (arith, length-take 16 c.args.buffer.now)) (omega arith)
           c.in_ok-size.size _ _ c.in_ok-size.ensures.ok c.in_ok-size.ensures.whole c.fill-2.new.bytes (search rules) c.in_err-fill-2.ensures.short;
       whole = tt;
-      counted = tt;
       device = λ none. c.in_err-fill-2.ensures.err;
     })
 
@@ -41,6 +39,5 @@ returns-in_err-size g c =
     rw (p.1, p.2) (record {
       gathers = faulty_header _ _ c.args.count _ c.fill.new.bytes c.in_ok-fill.ensures.given c.args.buffer.now (omega (arith, length-take 16 c.args.buffer.now)) (omega arith) _ c.in_err-size.field-0.0 found.1 found.0;
       whole = tt;
-      counted = tt;
       device = λ none. c.in_ok-fill.ensures.ok ∙ none ∙ sym (not_of_reader c.in_err-size.field-0.0 found.1);
     })
