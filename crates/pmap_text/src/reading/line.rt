@@ -316,7 +316,6 @@ impl Reading {
 
     /// Reads the content of one more line. An entry for a block that has one already is added too. After a fault
     /// nothing is known of the lines so far.
-    #[inline(always)]
     pub fn read_content(&mut self, form: Form, content: &[u8]) -> Result<(), MapFaultKind>
         ensures { ReadsLine self.old self.new (content_line form self.old content.now) result }
     {
