@@ -129,12 +129,17 @@ abbrev pub HoldsMessage : {E : Type 0} → ℕ → List ℕ → Result (Option �
 HoldsMessage count buffer found = IfOk found (λ next. IfSome next (λ size.
     HasHeader (take size buffer) × (size ≤ length buffer) × (count < 4294967295)))
 
--- The message that was read to the start of a buffer has the taken bytes, there is none, or this is the fault of its
--- header or of the reader.
+-- The taken bytes are the message that was read to the start of a buffer, or no message follows, or the header or the
+-- reader has this fault, at the offset of the message.
 abbrev pub GathersAt : ProgressView → List ℕ → Result (Option ℕ) ReadFault → Bool → List ℕ → Type 0
 GathersAt now buffer found ended taken =
     Gathers now.count (result_map_both (front_in buffer) (λ fault. fault.kind) found) ended taken
     × IfErr found (λ fault. fault.offset ≡ now.offset)
+
+-- A result that is a message is counted: messages may follow, and one more precedes them.
+abbrev pub CountsMessage : ProgressView → Result (Option MessageView) ReadFault → ProgressView → Type 0
+CountsMessage old result new = IfOk result (λ next. OnSome next ((new.count ≡ old.count + 1)
+    × (new.count ≤ 4294967295) × (new.state ≡ Going)))
 
 -- The result for what was read to the start of a buffer, and the state after it, whatever bytes were taken for it.
 pub record Decodes (old : ProgressView) (buffer : List ℕ) (found : Result (Option ℕ) ReadFault)
@@ -145,8 +150,7 @@ pub record Decodes (old : ProgressView) (buffer : List ℕ) (found : Result (Opt
   pub fault : (fault : ReadFault) → found ≡ Err fault
       → (result ≡ Err fault) × (new ≡ record old { state = Failed })
   pub device : is_read_fault result ≡ is_read_fault found
-  pub counted : IfOk result (λ next. OnSome next ((new.count ≡ old.count + 1)
-      × (new.count ≤ 4294967295) × (new.state ≡ Going)))
+  pub counted : CountsMessage old result new
 
 -- What a call does with a reader that has this view.
 module _ {R : Type 0} (input : R → InputView) where

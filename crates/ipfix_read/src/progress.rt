@@ -1,10 +1,10 @@
 //! Reading a File message by message.
-ghost use Rattle.std.specs.Prelude.{◌≡◌, ◌<◌, ◌≤◌, ◌+◌, false, IfOk, MatchResult, OnSome, length, vec_len};
+ghost use Rattle.std.specs.Prelude.{◌≡◌, false, IfOk, MatchResult, length, vec_len};
 ghost use Rattle.flow_io.specs.Devices.{ReadsInput, has_ended};
 ghost use Rattle.std.specs.Result.{result_map_both};
 ghost use Rattle.ipfix_templates.specs.InForce.{no_templates};
 ghost use Rattle.ipfix_read.specs.Fault.{is_of_reader};
-ghost use Rattle.ipfix_read.specs.Messages.{Going, AnswersCall, Decodes, Gathers, GathersCall, HoldsMessage};
+ghost use Rattle.ipfix_read.specs.Messages.{AnswersCall, CountsMessage, Decodes, Gathers, GathersCall, HoldsMessage};
 ghost use Rattle.ipfix_read.specs.Messages.{ProgressView, IsAt, front_in};
 
 use crate::fault::{ReadFault, ReadFaultKind};
@@ -159,8 +159,7 @@ impl Progress {
         ensures call { AnswersCall R.input self.old reader.old result self.new reader.new }
 
         // `counted` says less than `call`, in a form that is simpler to use.
-        ensures counted { IfOk result (λ next. OnSome next ((self.new.count ≡ self.old.count + 1)
-            × (self.new.count ≤ 4294967295) × (self.new.state ≡ Going))) }
+        ensures counted { CountsMessage self.old result self.new }
     {
         let found = self.gather(reader, &mut *buffer);
         let bytes = buffer.bytes();
@@ -302,7 +301,7 @@ impl<'r, R: Input> Messages<'r, R, Kept> {
     ///
     /// The errors are those of `Progress::next`.
     pub fn next_message(&mut self) -> Result<Option<Message<'_>>, ReadFault>
-        // This is about `self` as it is once the message is dropped.
+        // `leaves` is about `self` once the message is dropped. `found` says less, in a form that callers can use.
         ensures* leaves { sem 𝓛 (LeavesMessages R.row self.entry R.input result) }
         ensures found { (new : ProgressView) × (then : R)
             × AnswersCall R.input self.old.kept.progress self.old.reader.now result new then }

@@ -120,7 +120,7 @@ next_message_spec 𝓤 𝓛 𝓜 𝓡 wired R laws R-Input dict bound =
     use2 𝓛 (‵ (flft κ₁ both.0) ⊛ raw (wand 𝓤 (𝓛.A.lft κ₁ both.0) (sep 𝓤 (𝓛.A.lft (α ∷ []) full_share) (𝓛.A.lft κ (Share.right q))))) (lft-common 𝓛 (α ∷ []) κ full_share (Share.right q)) $ split ! $
     move ! (3 ∷ 2 ∷ []) $ use2 𝓛 (later (some (λ (δ : ℕ). ‵ (Ref κ₁ (record r { ghost_name = δ })) ⊛ ‵ (LentAgain S κ κ₁ (Share.left q) r.ghost_name b o δ r.now))))
     (lends_again 𝓛 S (named 0) κ κ₁ (Share.left q) r.ghost_name b o (named 0) r.now) $ await ! tt $ pick ! (λ δ. split ! $
-    -- [the loan; what the lender keeps; the token of κ₁; the way back to the tokens that it is made of; the other tokens]
+    -- [the loan; what the lender keeps; the token of κ₁; the way back to the two tokens that gave it; the other tokens]
     let G = triple_of 𝓛 (g.signature R) (g.spec R R-Input dict 𝓛 𝓜.mem 𝓡.returns) in
     let κs₁ : Lfts 3 = (κ₁, κs.1) in let qs₁ : Shares 3 = (both.0, qs.1) in
     let within = ⊑_trans κ₁ κ κs.1.0 (meet_⊑_right (α ∷ []) κ) bounds.0 in let within' = ⊑_trans κ₁ κ κs.1.1.0 (meet_⊑_right (α ∷ []) κ) bounds.1.0 in
