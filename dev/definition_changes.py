@@ -8,11 +8,13 @@ types of expressions where the text shows them, but nothing here checks types.
 import collections
 import re
 
-TOKEN = re.compile(r'"(?:[^"\\]|\\.)*"|[(){},;]|[^\s(){},;"]+')
-NUMBER = re.compile(r"0x[0-9a-fA-F_]+|\d[\d_]*")
+import specs
+from specs import NUMBER, OPERATORS, TOKEN
+
 # Operators with how tightly they bind. `=`, `.` and `:` separate.
-BINDS = {"→": 0, "⊎": 1, "×": 2, "≡": 4, "≢": 4, "∷": 5, "++": 5, ">>=": 10, "||": 30, "&&": 35, "==": 40, "≤": 50, "<": 50,
-         "+": 65, "-": 65, "*": 70, "/": 70, "%": 70, "^": 75}
+BINDS = {sign: strength for sign, (strength, _) in OPERATORS.items()}
+# Those that group to the right.
+RIGHT = {sign for sign, (_, side) in OPERATORS.items() if side == "right"}
 BREAKS = {"if", "then", "else", "let", "in", "=", ",", ";", "λ"}
 # Words that are exchanged for one another: one for the other, in both directions.
 PAIRS = [("nat_le", "nat_lt"), ("≤", "<"), ("&&", "||"), ("true", "false"), ("+", "-"), ("*", "+"),
@@ -47,7 +49,7 @@ class Part:
 
     def __init__(self, text, start, end):
         self.text = text
-        self.tokens = [(match[0], match.start(), match.end()) for match in TOKEN.finditer(text, start, end)]
+        self.tokens = [(match[1], *match.span(1)) for match in TOKEN.finditer(text, start, end) if match[1]]
         self.mates, opened, self.hidden = {}, [], set()
         for index, (word, _, _) in enumerate(self.tokens):
             if word in "({":
@@ -90,7 +92,7 @@ class Part:
                 break
             if word in ("λ", "if", "let"):
                 return self.open_end(at)
-            if word in BINDS and (BINDS[word] < binds or BINDS[word] == binds and word not in ("∷", "++", "×", "→", "^")):
+            if word in BINDS and (BINDS[word] < binds or BINDS[word] == binds and word not in RIGHT):
                 break
             at = self.mates[at] + 1 if word in "({" else at + 1
         return at
@@ -123,7 +125,7 @@ class Part:
             word = self.word(at)
             if word in "({" or word in BREAKS or word.endswith(".") and len(word) > 1 and self.is_binder(at):
                 break
-            if word in BINDS and (BINDS[word] < binds or BINDS[word] == binds and word in ("∷", "++", "×", "→", "^")):
+            if word in BINDS and (BINDS[word] < binds or BINDS[word] == binds and word in RIGHT):
                 break
             at = self.mates[at] - 1 if word in ")}" else at - 1
         return at + 1
@@ -338,43 +340,9 @@ def variable_changes(part, begin, kinds):
                     yield f"{part.word(index)} → {new}", part.replaced(index, index + 1, new)
 
 
-BEGINS = re.compile(r"( *)(?:abbrev pub|unfoldable pub|pub (record|data)|pub) ([^\s:({]+)")
-
-
-def blocks(text):
-    """Returns where the text of each definition of a module begins and ends, and its kind, by its name."""
-    found, here, at = {}, None, 0
-    for line in text.splitlines(keepends=True):
-        begins = BEGINS.match(line)
-        if not line.strip() or re.match(r"\s*(module|pub mod|use|pub use|ghost use|infix\w*)\b", line):
-            here = None
-        elif line.lstrip().startswith("--"):
-            pass
-        elif begins and not (here and found[here][3] is not None and len(begins[1]) > found[here][3]):
-            here = begins[3]
-            found[here] = [at, at + len(line), begins[2] or "function", len(begins[1]) if begins[2] else None, len(begins[1])]
-        elif here:
-            found[here][1] = at + len(line)
-        at += len(line)
-    return found
-
-
-def equations(text, start, end, name, indent):
-    """Returns the places of a function's equations, each with that of its right side."""
-    found = []
-    plain = name.replace("◌", "")
-    lines = text[start:end].splitlines(keepends=True)
-    at = start
-    for number, line in enumerate(lines):
-        inside = len(line) - len(line.lstrip())
-        is_first = number and inside == indent and not line.lstrip().startswith("--") and (
-            line.lstrip().startswith(name + " ") or "◌" in name and f" {plain} " in line and " = " in line)
-        if is_first:
-            found.append([at, at + len(line)])
-        elif found:
-            found[-1][1] = at + len(line)
-        at += len(line)
-    return found
+def read(text):
+    """Returns the definitions of a module, by their names."""
+    return specs.Module("", None, text).read().definitions
 
 
 def split_arrows(kind):
@@ -406,10 +374,10 @@ class Definition:
     """A definition: its block in the text of a module."""
 
     def __init__(self, text, name, variants):
-        start, end, self.kind, _, indent = blocks(text)[name]
-        self.text, self.name, self.variants = text, name, variants
-        self.start, self.end = start, end
-        places = equations(text, start, end, name, indent) if self.kind == "function" else []
+        definition = read(text)[name]
+        self.text, self.name, self.variants, self.kind = text, name, variants, definition.kind
+        self.start, self.end = start, end = definition.span
+        places = definition.spans(definition.depth) if self.kind == "function" else []
         head = " ".join(text[start:places[0][0] if places else end].split())
         self.result = head.partition(" : ")[2].rpartition("→")[2].strip()
         self.types = split_arrows(head.partition(" : ")[2]) if self.kind == "function" else []
@@ -422,7 +390,7 @@ class Definition:
                 if equal is not None:
                     self.parts.append((part, equal + 1))
         elif self.kind == "record":
-            self.fields(text, start, end)
+            self.fields(text, definition)
 
     def is_top(self, part, index):
         depth = 0
@@ -431,17 +399,10 @@ class Definition:
             depth -= word in ")}"
         return depth == 0
 
-    def fields(self, text, start, end):
-        at, found = start, []
-        for number, line in enumerate(text[start:end].splitlines(keepends=True)):
-            if number and line.lstrip().startswith("pub "):
-                found.append([at, at + len(line)])
-            elif number and found and not line.lstrip().startswith("--"):
-                found[-1][1] = at + len(line)
-            at += len(line)
+    def fields(self, text, definition):
         # A record of values says nothing: it has no parameters but types.
-        is_relation = re.search(r"\([\w' ]+ : (?!Type)", text[start:end].partition(" where")[0])
-        for first, last in found if is_relation else []:
+        is_relation = re.search(r"\([\w' ]+ : (?!Type)", text[self.start:self.end].partition(" where")[0])
+        for first, last in definition.spans(definition.depth + 2) if is_relation else []:
             part = Part(text, first, last)
             colon = next(i for i, (word, _, _) in enumerate(part.tokens) if word == ":")
             self.parts.append((part, colon + 1))
@@ -517,7 +478,7 @@ class Definition:
 
 
 def words_of(text):
-    return {match[0] for match in TOKEN.finditer(text)}
+    return {*specs.lex(text)[:-1]}
 
 
 def with_imports(text, words):
@@ -556,12 +517,13 @@ def names_in(text, patterns):
 
 def variants_of(text):
     """Returns the groups of constructors that a module knows: of each imported type, and of each type that it imports by an alias."""
-    by_type = collections.defaultdict(list)
-    for kind, names in re.findall(r"^\s*(?:pub )?use Rattle\.([\w.]+)\.TheVariants\.\{(.*)\};?$", text, re.M):
-        by_type[kind] += [item.strip().split(" as ")[-1] for item in names.split(",")]
+    module, by_type = specs.Module("", None, text), collections.defaultdict(list)
+    for name, (source, _) in module.names.items():
+        if source.endswith(".TheVariants"):
+            by_type[source].append(name)
     groups = [*by_type.values()]
-    for match in re.finditer(r"^\s*(?:pub )?use Rattle\.[\w.]+ as (\w+);?$", text, re.M):
-        names = dict.fromkeys(re.findall(rf"(?<![\w.]){match[1]}\.[A-Z]\w*", text))
+    for alias in module.modules:
+        names = dict.fromkeys(re.findall(rf"(?<![\w.]){alias}\.[A-Z]\w*", text))
         groups.append([name for name in names if not re.search(rf"\({re.escape(name)} \w", text)])
     return [[n for n in g if not re.search(rf"\({re.escape(n)} [\w(]", text)] for g in groups]
 

@@ -1,5 +1,8 @@
 """Reads the definitions of specs/: the modules with their imports, the equations of definitions, and terms as trees.
 
+It is the only reader of the language: dev/evaluator.py evaluates its trees, dev/trusted follows the names, and
+dev/definition_changes.py changes the texts.
+
 A tree is a tuple whose first item says what it is: ("name", word), ("number", value), ("text", text), ("field", tree,
 name), ("record", base or None, [(field, tree)..]), ("function", names, body), ("apply", head, arguments), ("operator",
 sign, operands..), where the sign of a pair is a comma, or ("binder", sign, names, type, body), which says that there
@@ -161,22 +164,39 @@ class Parser:
         return ("record", base, fields)
 
 
-BEGINS = re.compile(r"( *)(abbrev pub|unfoldable pub|pub record|pub data|pub) ([^\s:({]+)(.*)")
+BEGINS = re.compile(r"( *)(abbrev pub|unfoldable pub|pub record|pub data|pub) ([^\s:({]+)")
 IMPORT = re.compile(r"\s*(?:ghost )?(?:pub )?use (?:Rattle\.)?([\w.]+?)(?:\.\{(.*)\}| as (\w+));?$")
 PASSED_OVER = re.compile(r"\s*(--|((pub|ghost) )*use |pub mod |infix|unfolding\b|$)")
 EXPLICIT = re.compile(r"\(([\w' ]+) :")  # the names of parameters that calls give
 
 
 def with_whole_lines(text):
-    """Returns the text of a module with each `module _ .. where` on one line."""
-    return re.sub(r"(?m)^(module [^\n]*)(?<!where)\n +", r"\1 ", text)
+    """Returns the text of a module, as long as it is, with each `module _ .. where` on one line."""
+    return re.sub(r"(?m)^(module [^\n]*)(?<!where)\n(?= )", r"\1 ", text)
 
 
 class Definition:
-    """A definition as it is in its file. `outer` are the parameters of the part of the module that it is in."""
+    """A definition as it is in its file. `part` is the line `module _ .. where` of the part of the module that it is in,
+    whose parameters are `outer`. `lines` are its lines without comments, and `offsets` say where they begin in the text
+    of the module."""
 
-    def __init__(self, name, kind, depth, outer, lines):
-        self.name, self.kind, self.depth, self.outer, self.lines = name, kind, depth, outer, lines
+    def __init__(self, name, kind, depth, part):
+        self.name, self.kind, self.depth, self.part, self.lines, self.offsets = name, kind, depth, part, [], []
+        self.outer = " ".join(EXPLICIT.findall(part)).split()
+
+    def add(self, line, offset):
+        """Adds a line."""
+        self.lines.append(line)
+        self.offsets.append(offset)
+
+    @property
+    def span(self):
+        """Where the definition begins and ends in the text of the module."""
+        return self.offsets[0], self.end_of(len(self.lines))
+
+    def end_of(self, number):
+        """Returns where the line before the one of this number ends, with its line feed."""
+        return self.offsets[number - 1] + len(self.lines[number - 1]) + 1
 
     @functools.cached_property
     def sides(self):
@@ -218,10 +238,19 @@ class Definition:
         body = ("binder", "×", values, "value", body) if values else body
         return [([("name", name) for name in params], body)]
 
-    def texts(self, depth):
-        """Divides the lines of the definition after the first at those that are this far in."""
+    def parts(self, depth):
+        """Divides the lines of the definition after the first at those that are this far in. Yields the number of the
+        first line of each part, and that of the line after it."""
         places = [place for place, line in enumerate(self.lines) if place and re.match(f" {{{depth}}}[^\\s)}}]", line)]
-        return ["\n".join(self.lines[a:b]).strip() for a, b in itertools.pairwise([*places, len(self.lines)])]
+        return itertools.pairwise([*places, len(self.lines)])
+
+    def texts(self, depth):
+        """Returns the texts of these parts, without comments."""
+        return ["\n".join(self.lines[first:after]).strip() for first, after in self.parts(depth)]
+
+    def spans(self, depth):
+        """Returns where these parts begin and end in the text of the module."""
+        return [(self.offsets[first], self.end_of(after)) for first, after in self.parts(depth)]
 
 
 class Module:
@@ -239,19 +268,20 @@ class Module:
     def read(self):
         """Divides the text into definitions. The parameters of a line `module _ .. where` are first arguments of those
         that are further in."""
-        current, outer = None, []
+        current, part, offset, after = None, "", 0, 0
         for line in with_whole_lines(self.text).split("\n"):
+            offset, after = after, after + len(line) + 1
             depth, begins = len(line) - len(line.lstrip()), BEGINS.match(line)
             if PASSED_OVER.match(line):
                 continue
             if line.lstrip().startswith("module "):
-                current, outer = None, " ".join(EXPLICIT.findall(line)).split()
+                current, part = None, " ".join(line.split())
             elif begins and not (current and current.kind != "function" and depth > current.depth):
                 kind = {"pub record": "record", "pub data": "data"}.get(begins[2], "function")
-                current = Definition(begins[3], kind, depth, outer if depth else [], [begins[4]])
-                self.definitions[current.name] = current
+                current = self.definitions[begins[3]] = Definition(begins[3], kind, depth, part if depth else "")
+                current.add(line, offset)
             elif current:
-                current.lines.append(line)
+                current.add(line, offset)
                 if current.kind == "data" and " :" in line:
                     name = line.split(" :")[0].strip()
                     self.constructors[name] = f"{self.key}.{current.name}.{name}"

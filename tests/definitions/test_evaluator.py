@@ -101,7 +101,7 @@ class Words(Case):
         rng, tried = random.Random(7), 0
         for name, full in self.found.items():
             definition = self.definitions.definition(full)
-            head = " ".join(" ".join(definition.lines).split(f"\n{name} ")[0].split())
+            head = " ".join(" ".join(definition.lines).split())
             kinds = self.arrows(head[head.index(":") + 1:].split(f" {name} ")[0])
             if any(kind.startswith("{") for kind in kinds):
                 kinds = [kind for kind in kinds if not kind.startswith("{")]

@@ -33,7 +33,7 @@ from typing import NamedTuple
 
 ROOT = Path(__file__).resolve().parents[2]
 sys.path[:0] = [str(ROOT / "tests"), str(ROOT / "dev")]
-from specs import BEGINS, Module, with_whole_lines
+from specs import Module
 from support import Case
 
 CRATES, STORED = ROOT / "crates", Path(__file__).with_name("reviewed.txt")
@@ -201,23 +201,13 @@ def contracts():
 def definitions():
     """Yields the definitions of the headline: kind and place, and the text."""
     for file in (*HEADLINE, *DEFINITIONS):
-        text, parts = read(f"{file}.antt"), {}
+        text = read(f"{file}.antt")
         if file in HEADLINE:
             text = text.partition(f"\n{DIVIDER}")[0]
-        module, opened, name, inside = Module("", None, text), "", None, 0
-        for line in with_whole_lines(text).split("\n"):
-            begins = BEGINS.match(line)
-            if not line.strip() or re.match(r"\s*(--|module |(pub )?use )", line):
-                opened = line if line.startswith("module ") else opened
-                name = None if not line.lstrip().startswith("--") else name
-            elif begins and not (name and len(begins[1]) > inside):
-                name, inside = begins[3], len(begins[1]) if begins[2] in ("pub record", "pub data") else len(line)
-                parts[name] = [opened if begins[1] else "", line]
-            elif name:
-                parts[name].append(line)
-        for name, lines in parts.items():
-            if name in DEFINITIONS.get(file, parts):
-                whole = "\n".join(filter(None, lines))
+        module = Module("", None, text).read()
+        for name, definition in module.definitions.items():
+            if name in DEFINITIONS.get(file, module.definitions):
+                whole = "\n".join(filter(None, [definition.part, *definition.lines]))
                 yield f"definition {file}.antt {name}", "\n".join([whole, *sources_of_names(whole, module)])
 
 
