@@ -10,7 +10,6 @@ import itertools
 import os
 import pathlib
 import re
-import runpy
 import shutil
 import signal
 import sys
@@ -499,7 +498,9 @@ class Trials(TreeCase):
         sources = ROOT / "crates/flowlabel/src/definition.rt"
         before = read(sources)
         os.mkdir("copy")
-        runpy.run_path(str(ROOT / "dev/trial.py"))["copy"](pathlib.Path("copy"))
+        sys.path.insert(0, str(ROOT / "dev"))
+        import trial
+        trial.copy(pathlib.Path("copy"))
         changed = set(read("copy/crates/flowlabel/src/definition.rt").splitlines()) - set(before.splitlines())
         self.assertRegex("".join(changed), r'^        concat!\(\$before, "\d+\.\d+\.\d+ \(trial: not proved\)"\)$')
         self.assertEqual(read(sources), before)
