@@ -10,11 +10,11 @@ import os
 import re
 import sys
 
-from measure import Growth, Yardstick, fastest, lines_of, print_table, written
+from measure import Growth, Yardstick, arguments, fastest, lines_of, print_table, written
 
 
 def main():
-    program, plain, *maps = sys.argv[1:]
+    program, plain, maps = arguments(__doc__, "PROGRAM", "PLAIN", "MAP..")
     yardstick = Yardstick(program, plain)
     heads = ["map", "lines", "growth", "recert", "growth", "MB", *yardstick.heads]
     rows = [[*heads, "with chains", "check", "with chains", "times quicker"]]

@@ -8,9 +8,8 @@ of the File once.
 
 import os
 import re
-import sys
 
-from measure import Growth, Yardstick, fastest, lines_of, print_table
+from measure import Growth, Yardstick, arguments, fastest, lines_of, print_table
 
 COMMANDS = (("info",), ("rows",), ("rows", "--columns"))
 
@@ -23,7 +22,7 @@ def memory_of_a_row(memory, written):
 
 
 def main():
-    program, plain, *files = sys.argv[1:]
+    program, plain, files = arguments(__doc__, "PROGRAM", "PLAIN", "FILE..")
     yardstick = Yardstick(program, plain)
     reading = ["reading"] if yardstick.heads else []
     rows = [["File", "MB", "command", "seconds", "growth", "MB", "bytes a row", *reading, *yardstick.heads]]

@@ -24,8 +24,10 @@ The other kinds are hard to read:
 import itertools
 import os
 import random
+import re
 import struct
-import sys
+
+from measure import Parser, count
 
 SEED = 20260101
 DOMAINS = os.path.join(os.path.dirname(os.path.realpath(__file__)), "data/domains.txt")
@@ -181,8 +183,16 @@ def full(count, fields, set_of):
 
 
 def main():
-    kind, count, name = sys.argv[1:]
-    count = int(count)
+    parser = Parser(__doc__)
+    parser.add_argument("kind", metavar="KIND", choices=re.findall(r"(?m)^- (\w+):", __doc__))
+    parser.add_argument("count", metavar="COUNT", type=count)
+    parser.add_argument("file", metavar="FILE")
+    given = parser.parse_args()
+    write(given.kind, given.count, given.file)
+
+
+def write(kind, count, name):
+    """Writes the File."""
     empty = [(210, 0)] * MANY
     match kind:
         case "mixed" | "usual" | "biflow" | "sources" | "colliding" | "known":
@@ -198,8 +208,6 @@ def main():
                             lambda room: data_set(V4_ID, bytes((room - 4) // size * size)))
         case "sets":
             messages = full(count, [(8, 4), (12, 4), *empty], lambda _: data_set(V4_ID, b""))
-        case _:
-            sys.exit(f"flows.py: no kind {kind}")
     with open(name, "wb") as file:
         file.writelines(messages)
 

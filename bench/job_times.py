@@ -9,9 +9,8 @@ is reported on by itself and under the two maps. BIFLOWS, whose records have bot
 
 import os
 import statistics
-import sys
 
-from measure import Yardstick, print_table
+from measure import Yardstick, arguments, print_table
 
 TIMES = 5
 ADDRESSES = {"countries": "128.9.160.23", "countries6": "2001:db8::1", "routes": "128.9.160.23", "hosts": "2001:db8::1"}
@@ -66,7 +65,7 @@ def means(rows):
 
 
 def main():
-    program, plain, flows, biflows, *maps = sys.argv[1:]
+    program, plain, flows, biflows, maps = arguments(__doc__, "PROGRAM", "PLAIN", "FLOWS", "BIFLOWS", "MAP..")
     yardstick = Yardstick(program, plain)
     by_order = {os.path.basename(name).split("-")[0]: name for name in maps}
     jobs = [job for name in maps for job in jobs_of_map(name)]

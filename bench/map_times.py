@@ -7,9 +7,8 @@ three addresses, or if a run fails.
 
 import os
 import re
-import sys
 
-from measure import Growth, Yardstick, print_table
+from measure import Growth, Yardstick, arguments, print_table
 
 MIDDLE = ("2001:db8:0:0:8000::", "2001:db8:0:0:8000::5", "2001:db8::7fff:ffff:fff0:0")
 ADDRESSES = {
@@ -23,7 +22,7 @@ ADDRESSES = {
 
 
 def main():
-    program, plain, *maps = sys.argv[1:]
+    program, plain, maps = arguments(__doc__, "PROGRAM", "PLAIN", "MAP..")
     yardstick = Yardstick(program, plain)
     rows = [["lines", "order", "seconds", "growth", "MB", "growth", *yardstick.heads]]
     growth = Growth()

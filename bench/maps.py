@@ -39,7 +39,9 @@ import functools
 import ipaddress
 import itertools
 import random
-import sys
+import re
+
+from measure import Parser, count
 
 SEED = 20260101
 LABELS = 400
@@ -257,7 +259,7 @@ def ipv6_lines(rng, names, count, order):
             return itertools.islice(addresses(rng, names, lambda: 1 << 61 | rng.getrandbits(61)), count)
         case "colliding":
             return itertools.islice(addresses(rng, names, lambda: COLLIDING), count)
-    sys.exit(f"maps.py: no order {order}")
+    raise ValueError(order)
 
 
 def ipv4_lines(rng, names, count, order):
@@ -299,9 +301,13 @@ def lines(count, order):
 
 
 def main():
-    count, order, name = int(sys.argv[1]), sys.argv[2], sys.argv[3]
-    with open(name, "w", encoding="ascii", newline="\n") as text:
-        text.writelines(f"{line}\n" for line in lines(count, order))
+    parser = Parser(__doc__)
+    parser.add_argument("lines", metavar="LINES", type=count)
+    parser.add_argument("order", metavar="ORDER", choices=["sorted", "shuffled", *re.findall(r"(?m)^- (\w+):", __doc__)])
+    parser.add_argument("file", metavar="FILE")
+    given = parser.parse_args()
+    with open(given.file, "w", encoding="ascii", newline="\n") as text:
+        text.writelines(f"{line}\n" for line in lines(given.lines, given.order))
 
 
 main()

@@ -7,8 +7,23 @@ import shutil
 import subprocess
 import sys
 
+ROOT = os.path.dirname(os.path.dirname(os.path.realpath(__file__)))
+sys.path.append(os.path.join(ROOT, "dev"))
+from command_line import Parser, arguments, count
+
 # It adds less to the memory that it measures than this interpreter would.
 METER = "/usr/bin/time"
+
+
+def program():
+    """Returns the program that is measured: the one that FLOWLABEL names, or the proved one."""
+    named = os.environ.get("FLOWLABEL") or os.path.join(ROOT, "crates/flowlabel_main/out/flowlabel_main")
+    return os.path.abspath(shutil.which(named) or sys.exit(f"bench: there is no program {named}: run `make`"))
+
+
+def make(script, *words):
+    """Runs a script of bench/ that makes a file."""
+    subprocess.run([sys.executable, os.path.join(ROOT, "bench", script), *map(str, words)], check=True)
 
 
 def run(words, output=subprocess.DEVNULL):

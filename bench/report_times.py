@@ -13,7 +13,7 @@ import random
 import re
 import sys
 
-from measure import Growth, Yardstick, fastest, peak, print_table, written
+from measure import Growth, Yardstick, arguments, fastest, peak, print_table, written
 
 SEED = 20260101
 ITEMS = 3000
@@ -59,7 +59,7 @@ def compare_with_list(program, words, map_name, folder):
 
 
 def main():
-    program, plain, map_name, *files = sys.argv[1:]
+    program, plain, map_name, files = arguments(__doc__, "PROGRAM", "PLAIN", "MAP", "FLOWS..")
     yardstick = Yardstick(program, plain)
     rows = [["flows", "report", "seconds", "growth", "MB", *yardstick.heads]]
     growth = Growth()

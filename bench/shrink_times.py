@@ -10,7 +10,7 @@ import os
 import re
 import sys
 
-from measure import Growth, Yardstick, lines_of, print_table
+from measure import Growth, Yardstick, arguments, lines_of, print_table
 
 TIMES = 2
 # The maximum number of entries of a list text that is read.
@@ -49,7 +49,7 @@ def commands(yardstick, name):
 
 
 def main():
-    program, plain, *maps = sys.argv[1:]
+    program, plain, maps = arguments(__doc__, "PROGRAM", "PLAIN", "MAP..")
     yardstick = Yardstick(program, plain)
     rows = [["lines", "order", "command", "gives", "seconds", "growth", "MB", "growth", *yardstick.heads]]
     growth = Growth()

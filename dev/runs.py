@@ -6,6 +6,7 @@ import sys
 from collections import namedtuple
 from pathlib import Path
 
+import evaluator
 from evaluator import CannotEvaluate, Definitions, Malformed, Unknown, cannot, same, with_stack
 from headline import Headline
 from kit import NONE, UNIT, Case, Record, borrowed, codes, err, is_ok, is_some, ok, own_name, pair, shown, some
@@ -264,7 +265,11 @@ def write(stream, text):
 
 
 def evaluate(words):
-    """Prints what the words of the command line ask for, and returns the exit status."""
+    """Prints what the words of the command line ask for, and returns the exit status. `--help` alone asks for the help of
+    dev/evaluate, since the definitions leave that of flowlabel open."""
+    if words in (["-h"], ["--help"]):
+        write(1, evaluator.__doc__.encode())
+        return 0
     if words in ([], ["--headline"], ["--many"], ["--headline", "--many"], ["--definition"]):
         cannot(USAGE, Malformed)
     definitions = Definitions()

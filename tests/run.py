@@ -4,7 +4,7 @@
 Each module `test_*.py` below tests/ has unittest's classes. A class is run in a process of its own, JOBS of them at
 a time (as many as there are processors), and all of them also after a failure. With NAMEs only the tests are run
 whose names contain one of them, such as `report`, `report.Tables` or `by_minute`. The names are those of the lines
-below.
+below. If no test has a NAME, a line says so and names the nearest, no test is run, and the status is 1.
 
 The program is the one that FLOWLABEL names, or the younger of what `make` and `make trial` have built. If there is
 none, one line says so, and the status is 125. Otherwise a line comes for each class, followed by the whole of what
@@ -15,6 +15,7 @@ status is 1 if a test failed or if none was run.
 
 import collections
 import contextlib
+import difflib
 import faulthandler
 import json
 import os
@@ -95,9 +96,28 @@ def classes(words):
                 path = os.path.relpath(os.path.join(folder, name), TESTS)
                 # A module that can't be imported is a test that fails.
                 add_all(loader.loadTestsFromName(path[:-3].replace(os.sep, ".")), chosen)
+    refuse_unknown(words, [name_of(test) for tests in chosen.values() for test in tests])
     return {case: kept for case, tests in chosen.items()
-            if (kept := [test for test in tests if not words or any(
-                word.replace("test_", "") in name_of(test) for word in words)])}
+            if (kept := [test for test in tests if not words or any(is_part(word, name_of(test)) for word in words)])}
+
+
+def is_part(word, name):
+    """Returns whether a word of the command line chooses the test of this name."""
+    return word.replace("test_", "") in name
+
+
+def refuse_unknown(words, names):
+    """Ends the run if no test has one of the words in its name, and says for each of them which name is nearest."""
+    unknown = [word for word in words if not any(is_part(word, name) for name in names)]
+    for word in unknown:
+        length = word.count(".") + 1
+        pieces = {".".join(parts[at:at + length]) for parts in (name.split(".") for name in names)
+                  for at in range(len(parts) - length + 1)}
+        nearest = difflib.get_close_matches(word.replace("test_", ""), sorted(pieces), 1, 0)
+        print(f"tests/run.py: no test has the name {word!r}", *(f"the nearest is {name}" for name in nearest), sep="; ",
+              file=sys.stderr)
+    if unknown:
+        sys.exit(1)
 
 
 def add_all(suite, chosen):
@@ -216,6 +236,12 @@ def shown(count):
 
 
 def main():
+    if sys.argv[1:] in (["-h"], ["--help"]):
+        print(__doc__.strip())
+        return
+    if options := [word for word in sys.argv[1:] if word.startswith("-")]:
+        print(f"tests/run.py: there is no option {options[0]}: see tests/run.py --help", file=sys.stderr)
+        sys.exit(2)
     if not support.PROGRAM or not os.access(support.PROGRAM, os.X_OK):
         print(f"tests/run.py: {support.PROGRAM or 'the program'} isn't there: run `make`, or `make trial` for a build "
               "without proof in some minutes", file=sys.stderr)

@@ -2,7 +2,6 @@
 
 import os
 import sys
-from pathlib import Path
 
 if __name__ == "__main__":
     sys.path.insert(0, os.path.dirname(os.path.dirname(os.path.realpath(__file__))))
@@ -39,8 +38,9 @@ class Imports(Case):
     @classmethod
     def prepare(cls):
         files = {f"crates/one/{name}": text for name, text in SOURCES.items()}
-        for name, text in {**files, "dev/imports": (ROOT / "dev/imports").read_text()}.items():
-            Path(name).parent.mkdir(parents=True)
+        for name in ("dev/imports", "dev/command_line.py"):
+            files[name] = (ROOT / name).read_text()
+        for name, text in files.items():
             write(name, text)
         cls.found = run(sys.executable, "dev/imports").stdout.decode()
 
