@@ -17,9 +17,8 @@ import signal
 import struct
 import subprocess
 
-from support import MANY, Case, command, needs, not_in_ci, processes, read, rows, run, stand_in, texts, write
+from support import MANY, Case, cluster, command, needs, processes, read, rows, stand_in, texts, write
 from support import write_program
-from support.exporters import BOUND, QUIET
 from support.forked import Forked
 from support.ipfix import FOUR, SUMS, message, sets, template
 from support.namespaces import Isolated
@@ -640,40 +639,26 @@ class Parallel(Case):
         processes.wait(lambda: not os.path.exists(f"/proc/{read('begun').strip()}"))
 
 
-@not_in_ci("a worker takes half a minute to start")
-@needs("dask-scheduler", "openssl")
+@needs(*cluster.NEEDED)
 class Cluster(Isolated):
     """A scheduler and a worker of Dask with certificates of their own. Without these, nothing runs. No run takes more
     than LONGEST seconds, so that none can hang."""
     LONGEST = "600"
-    # A worker looks itself up in /proc.
-    spaces = ("mnt", "net")
-    variables = {f"DASK_DISTRIBUTED__COMM__{name}": value for name, value in (
-        ("REQUIRE_ENCRYPTION", "true"), ("TLS__CA_FILE", "ca.pem"),
-        *((f"TLS__{who}__{what}", f"one.{end}") for who in ("SCHEDULER", "WORKER", "CLIENT")
-          for what, end in (("CERT", "pem"), ("KEY", "key"))))}
+    spaces = cluster.SPACES
 
     @classmethod
     def prepare(cls):
         write_days()
-        for line in ("req -x509 -newkey rsa:2048 -nodes -keyout ca.key -out ca.pem -subj /CN=ca",
-                     "req -newkey rsa:2048 -nodes -keyout one.key -out one.csr -subj /CN=one",
-                     "x509 -req -in one.csr -CA ca.pem -CAkey ca.key -CAcreateserial -out one.pem"):
-            run("openssl", *line.split(), check=True)
-        for words in (("dask-scheduler", "--host", "tls://127.0.0.1", "--port", "8786", "--no-dashboard"),
-                      ("dask-worker", "tls://127.0.0.1:8786", "--host", "127.0.0.1", "--no-nanny", "--no-dashboard")):
-            process = subprocess.Popen([*BOUND, *words], env={**os.environ, **cls.variables}, **QUIET)
-            cls.addClassCleanup(process.wait)
-            cls.addClassCleanup(process.kill)
+        cluster.start(cls)
 
-    def bill(self, **variables):
+    def bill(self, variables):
         """Runs the command, which waits for the scheduler, but not for ever."""
-        return texts("timeout", self.LONGEST, BILL, "--scheduler", "tls://127.0.0.1:8786", "--fields", "proto", "days",
-                     variables={**self.variables, **variables})
+        return texts("timeout", self.LONGEST, BILL, "--scheduler", cluster.ADDRESS, "--fields", "proto", "days",
+                     variables=variables)
 
     def test_workers(self):
-        self.assertEqual(self.bill(), (0, SUMMED, ""))
+        self.assertEqual(self.bill(cluster.VARIABLES), (0, SUMMED, ""))
 
     def test_no_certificate(self):
-        status, output, error = self.bill(DASK_DISTRIBUTED__COMM__TLS__CA_FILE="")
+        status, output, error = self.bill(cluster.WITHOUT_AUTHORITY)
         self.assertEqual((status, output, error.count("\n")), (1, "", 1), error)
