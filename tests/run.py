@@ -9,8 +9,8 @@ below. If no test has a NAME, a line says so and names the nearest, no test is r
 The program is the one that FLOWLABEL names, or the younger of what `make` and `make trial` have built. If there is
 none, one line says so, and the status is 125. Otherwise a line comes for each class, followed by the whole of what
 failed. A class that takes more than LIMIT seconds (2,400) is ended with all that it has started, and has failed: what
-it waited for is then printed. Last come what was skipped and why, what failed, and 'N passed, N failed, N skipped'. The
-status is 1 if a test failed or if none was run.
+it waited for is then printed. Last come each reason for which tests were skipped, with their number, what failed, and
+'N passed, N failed, N skipped'. The status is 1 if a test failed or if none was run.
 """
 
 import collections
@@ -273,7 +273,7 @@ def report(ended):
         if what == "skipped":
             reasons[why].append(name)
     for why, names in sorted(reasons.items()):
-        print(f"skipped, {why}: {names[0]}{f' and {len(names) - 1} more' if len(names) > 1 else ''}")
+        print(f"skipped, {why}: {len(names)} test{'s' * (len(names) > 1)}, {names[0]}{' and others' * (len(names) > 1)}")
     for name, what, _ in ended:
         if what == "failed":
             print(f"failed: {name}")

@@ -29,7 +29,7 @@ import sys
 import types
 import unittest
 
-from support import PROGRAM, ROOT, command, needs, not_in_ci, read, rows, stand_in, texts, write
+from support import PROGRAM, ROOT, command, needs, read, rows, stand_in, texts, write
 from support.changes import PIPES, failing, output, planting, stands_in, waiting
 from support.exporters import BOUND
 from support.namespaces import Isolated, refused
@@ -1173,7 +1173,7 @@ class Changes(Countries):
         self.assert_answers(thin)
 
 
-# A class for each kind of table and each part of the tests. CI runs those of nft with small tables.
+# A class for each kind of table and each part of the tests.
 for kind, parts in ((Linux, (Steps, DoneSteps, Updates, Strangers, Whole, Changes)),
                     (Bird, (Unapplied, Whole, Changes)),
                     (Bpf, (Steps, DoneSteps, Updates, Strangers, Whole, Changes)),
@@ -1183,7 +1183,5 @@ for kind, parts in ((Linux, (Steps, DoneSteps, Updates, Strangers, Whole, Change
         name = kind.__name__ + part.__name__
         case = type(name, (kind, part, Tables), {"__module__": __name__, "__doc__": f"{kind.__doc__} {part.__doc__}"})
         case = needs(*kind.needed, *(["iptables", "ip6tables"] if name == "IpsetChanges" else []))(case)
-        if name not in ("NftSteps", "NftUpdates", "NftStrangers"):
-            case = not_in_ci("tables are loaded hundreds of times, or with hundreds of thousands of entries")(case)
         globals()[name] = case
 del case

@@ -14,7 +14,6 @@ import re
 import shutil
 import sys
 import unittest
-from unittest import mock
 
 from support import MANY, PROGRAM, ROOT, Case, needs, not_in_ci, read, read_bytes, rows, run
 from support.trees import BUILT, RECORD, Tree, digest
@@ -210,7 +209,6 @@ class Unpacked(ArchiveCase):
         self.assertFalse(os.path.exists(f"{top}/share/doc/flowlabel"))
 
 
-@not_in_ci("tests/pages runs these examples over the repository")
 @needs("rt", "strip", "objcopy", "nm", "dpkg-deb")
 class PagesOfArchive(ArchiveCase):
     """The examples of the installed pages."""
@@ -224,9 +222,8 @@ class PagesOfArchive(ArchiveCase):
         os.mkdir(f"{folder}/out")
         os.chdir(folder)
         self.addCleanup(os.chdir, os.path.dirname(folder))
-        with mock.patch.dict(os.environ, CI="true"):
-            page = examples.Page(name, FLOWLABEL="", PATH=f"{self.top}/bin:{self.path}")
-            self.assertEqual((page.faults(), len(page.examples) > least), ([], True))
+        page = examples.Page(name, with_others=False, FLOWLABEL="", PATH=f"{self.top}/bin:{self.path}")
+        self.assertEqual((page.faults(), len(page.examples) > least), ([], True))
 
 
 @not_in_ci("it fetches a Debian tree from a mirror, which may not answer")

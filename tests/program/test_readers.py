@@ -12,7 +12,7 @@ from datetime import datetime, timedelta, timezone
 from ipaddress import ip_address
 from xml.etree import ElementTree
 
-from support import PROGRAM, ROOT, TITLE, Case, needs, not_in_ci, rows, run
+from support import PROGRAM, ROOT, TITLE, Case, needs, rows, run
 
 COUNTS = ("messages", "templates", "options-templates", "withdrawals", "data-sets", "skipped-sets", "records",
           "options-records", "rows")
@@ -174,7 +174,6 @@ def shark_fields(record):
 FILES = [(path.name,) for path in sorted((ROOT / "examples").glob("*.ipfix"))]
 
 
-@not_in_ci("it compares with what other programs print")
 class Readers(Case):
     """The Files of real exporters."""
 

@@ -64,14 +64,14 @@ def examples(text):
             yield Example(number, "\n".join(block[start:after]).removeprefix("$ "), block[after:end])
 
 
-def lacks(command):
-    """Returns why a command can't be run here, as texts: what it needs is missing, or CI leaves it out."""
+def lacks(command, with_others):
+    """Returns why a command isn't run here, as texts: what it needs is missing, or other programs are left out."""
     found = NEEDS.search(command)
     if "-many" in OWN.findall(command) and not MANY and os.environ.get("CI", "local") == "local":
         yield "there is no flowlabel-many that is built"
     for name in found[1].split() if found else ():
-        if "/" not in name and os.environ.get("CI"):
-            yield f"not in CI: it needs {name}"
+        if "/" not in name and not with_others:
+            yield f"it needs {name}"
         elif not (os.path.exists if "/" in name else shutil.which)(name):
             yield f"there is no {name}"
 
@@ -102,8 +102,8 @@ def faults(example, environment):
 class Page:
     """The examples of a page. They run in the working folder, once each, and after those that make their files."""
 
-    def __init__(self, path, **environment):
-        self.examples = list(examples(read(path)))
+    def __init__(self, path, with_others=True, **environment):
+        self.examples, self.with_others = list(examples(read(path))), with_others
         self.environment = environment
         self.outcomes = {}
 
@@ -111,7 +111,7 @@ class Page:
         """Returns why an example is skipped, and how it differs from the page. Both may be empty."""
         if number not in self.outcomes:
             example, names = self.examples[number], set(MADE.findall(self.examples[number].command))
-            reasons = list(lacks(example.command))
+            reasons = list(lacks(example.command, self.with_others))
             for earlier, other in enumerate(self.examples[:number]):
                 made = set(MADE.findall(other.command))
                 if VARIABLE not in example.command:
