@@ -303,7 +303,8 @@ def lines(count, order):
 def main():
     parser = Parser(__doc__)
     parser.add_argument("lines", metavar="LINES", type=count)
-    parser.add_argument("order", metavar="ORDER", choices=["sorted", "shuffled", *re.findall(r"(?m)^- (\w+):", __doc__)])
+    orders = ["sorted", "shuffled", *re.findall(r"(?m)^- (\w+):", __doc__)]
+    parser.add_argument("order", metavar="ORDER", choices=orders)
     parser.add_argument("file", metavar="FILE")
     given = parser.parse_args()
     with open(given.file, "w", encoding="ascii", newline="\n") as text:

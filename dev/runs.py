@@ -265,8 +265,8 @@ def write(stream, text):
 
 
 def evaluate(words):
-    """Prints what the words of the command line ask for, and returns the exit status. `--help` alone asks for the help of
-    dev/evaluate, since the definitions leave that of flowlabel open."""
+    """Prints what the words of the command line ask for, and returns the exit status. `--help` alone asks for the help
+    of dev/evaluate, since the definitions leave that of flowlabel open."""
     if words in (["-h"], ["--help"]):
         write(1, evaluator.__doc__.encode())
         return 0

@@ -176,9 +176,9 @@ def with_whole_lines(text):
 
 
 class Definition:
-    """A definition as it is in its file. `part` is the line `module _ .. where` of the part of the module that it is in,
-    whose parameters are `outer`. `lines` are its lines without comments, and `offsets` say where they begin in the text
-    of the module."""
+    """A definition as it is in its file. `part` is the line `module _ .. where` of the part of the module that it is
+    in, whose parameters are `outer`. `lines` are its lines without comments, and `offsets` say where they begin in the
+    text of the module."""
 
     def __init__(self, name, kind, depth, part):
         self.name, self.kind, self.depth, self.part, self.lines, self.offsets = name, kind, depth, part, [], []

@@ -273,7 +273,8 @@ def report(ended):
         if what == "skipped":
             reasons[why].append(name)
     for why, names in sorted(reasons.items()):
-        print(f"skipped, {why}: {len(names)} test{'s' * (len(names) > 1)}, {names[0]}{' and others' * (len(names) > 1)}")
+        are_many = len(names) > 1
+        print(f"skipped, {why}: {len(names)} test{'s' * are_many}, {names[0]}{' and others' * are_many}")
     for name, what, _ in ended:
         if what == "failed":
             print(f"failed: {name}")

@@ -9,7 +9,8 @@ import re
 import struct
 import threading
 
-from support import PROGRAM, RECORD, ROOT, ROW, TEMPLATE_SET, TITLE, Case, data_set, message, read, rows, run, texts, write
+from support import PROGRAM, RECORD, ROOT, ROW, TEMPLATE_SET, TITLE, Case, data_set, message, read, rows, run, texts
+from support import write
 
 # Templates with wider counters and with IPv6 addresses, and the greatest number of a counter.
 WIDE_SET = "0002001c 01010005 00080004 000c0004 00040001 00020008 00010008"

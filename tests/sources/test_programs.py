@@ -1,4 +1,4 @@
-"""Each program of dev/, bench/ and tests/ prints its help, and refuses words that it doesn't take, and then does nothing.
+"""Each program of dev/, bench/ and tests/ prints its help, refuses words that it doesn't take, and does nothing else.
 
 The programs are found by what their files are. They run in a copy of the repository, over stand-ins for the programs
 with which they begin their work.

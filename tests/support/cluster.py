@@ -1,5 +1,5 @@
-"""A cluster of Dask: a scheduler and a worker on the loopback interface, which take only TLS, with certificates of their
-own. Its programs are those of Debian's python3-distributed.
+"""A cluster of Dask: a scheduler and a worker on the loopback interface, with TLS and certificates of their own. Its
+programs are those of Debian's python3-distributed.
 
 The tests of a class share a cluster in a network namespace of their own (support.namespaces), where its port is free:
 
