@@ -1,18 +1,20 @@
 """What makes the sums of IPFIX Files wrong, for flowlabel-audit and flowlabel-bill."""
 
+from __future__ import annotations
+
 import collections
-import dataclasses
-import functools
 import gc
 import itertools
 import json
 import re
 
-import files as ipfix
-import losses
-import shared
-import tables
-import templates
+from flowlabel import files as ipfix
+from flowlabel import losses, process, tables, templates
+
+TYPE_CHECKING = False
+if TYPE_CHECKING:
+    from collections.abc import Container, Iterator
+    from typing import IO
 
 # What is certainly wrong: the words by which it can be allowed, and what is said of it.
 KINDS = {
@@ -24,31 +26,24 @@ CHUNK = 1 << 20
 COLUMNS = b"file|message|offset|domain|sequence|time|definitions|skipped-sets|records|options-records|rows|zero-bytes\n"
 
 
-@dataclasses.dataclass
 class Counts:
     """The counts of a File."""
 
-    messages: int = 0
-    skipped: int = 0
-    records: int = 0
-    rows: int = 0
-    zero_bytes: int = 0
-    repeated: int = 0
+    messages = skipped = records = rows = zero_bytes = repeated = 0
 
 
 class Audit:
     """What is found in some Files, perhaps those of a month, from its begin to its end: of each its counts, and what is
     wrong, certainly if it has a kind."""
 
-    def __init__(self, files, month=None):
-        self.files, self.counts, self.found = files, [Counts() for _ in files], []
-        self.missing, self.unknown = {}, set()
+    def __init__(self, files: list[ipfix.File], month: tuple[float, float] | None = None) -> None:
+        self.files, self.counts, self.found = files, [Counts() for _ in files], list[losses.Found]()
         # There are no cycles of objects to find.
         gc.disable()
-        seen, first = templates.Seen(), {}
+        seen, first = templates.Seen(), dict[int, losses.Message]()
         for number, file in enumerate(files):
             self.read(number, file, seen)
-        loss, outputs, again, equal = losses.Loss(month), [*self.outputs()], seen.elsewhere, collections.Counter()
+        loss, outputs, again, equal = losses.Loss(month), [*self.outputs()], seen.elsewhere, collections.Counter[int]()
         # The outputs of flowlabel-many are read twice, since they may not fit into memory.
         for columns in itertools.chain.from_iterable(map(columns_of, outputs)):
             self.count(columns)
@@ -75,7 +70,7 @@ class Audit:
                         "their records are in sums twice") for number, count in (equal - loss.twice()).items())
         self.judge()
 
-    def read(self, number, file, seen):
+    def read(self, number: int, file: ipfix.File, seen: templates.Seen) -> None:
         """Reads the templates of a File."""
         seen.begin(file.time)
         its = templates.Templates(str(file), number, seen)
@@ -84,16 +79,16 @@ class Audit:
         seen.end(number)
         self.found += ((number, kind, text) for kind, text in its.found())
 
-    def outputs(self):
+    def outputs(self) -> Iterator[tuple[int, IO[bytes]]]:
         """Yields the outputs of flowlabel-many, each with the number of its first File."""
         number = 0
         for part, out in ipfix.run(["messages"], self.files):
             if out.readline() != COLUMNS:
-                raise shared.Failure("flowlabel-many prints other columns")
+                raise process.Failure("flowlabel-many prints other columns")
             yield number, out
             number += len(part)
 
-    def count(self, columns):
+    def count(self, columns: list[list[int]]) -> None:
         """Adds the counts of some messages to those of their Files."""
         end = 0
         for file, its in itertools.groupby(columns[0]):
@@ -104,7 +99,7 @@ class Audit:
                 count + sum(columns[place][begin:end]) for count, place in (
                     (counts.skipped, 7), (counts.records, 8), (counts.rows, 10), (counts.zero_bytes, 11)))
 
-    def judge(self):
+    def judge(self) -> None:
         """Finds what the counts of each File show."""
         for number, counts in enumerate(self.counts):
             if not counts.messages:
@@ -117,22 +112,22 @@ class Audit:
                 self.found.append((number, "bytes" if counts.zero_bytes == counts.rows else None,
                                    f"{counts.zero_bytes} of {counts.rows} rows have 0 bytes"))
 
-    def lines(self, is_certain):
+    def lines(self, is_certain: bool) -> list[str]:
         """Returns a line for each thing that is certainly wrong, or may be, with the first of its Files. What may be
         wrong has one line even if its numbers differ."""
-        files = collections.defaultdict(dict)
+        files = collections.defaultdict[str, dict[int, str]](dict)
         for number, kind, text in self.found:
             if (kind is not None) == is_certain:
                 files[text if is_certain else re.sub("[0-9]+", "", text)].setdefault(number, text)
         return [f"{self.files[min(its)]}: {its[min(its)]}" + f" (and so in {len(its) - 1} more Files)" * (len(its) > 1)
                 for its in files.values()]
 
-    def refused(self, allowed):
+    def refused(self, allowed: Container[str]) -> list[str]:
         """Returns the kinds of what is certainly wrong and isn't allowed."""
         found = {kind for _, kind, _ in self.found}
         return [kind for kind in KINDS if kind in found and kind not in allowed]
 
-    def look_up(self, labels):
+    def look_up(self, labels: list[str]) -> None:
         """Finds records without a label."""
         words = ["sum", "--fields=src-label,dst-label", "--allow-skipped", *labels]
         groups = tables.Sums(b"src-label dst-label".split())
@@ -140,7 +135,7 @@ class Audit:
             groups.add_table(tables.Table("the table of flowlabel-many", out))
         self.found += ((0, None, text) for text in groups.unlabelled())
 
-    def summary(self, number):
+    def summary(self, number: int) -> str:
         """Returns the last line of a File."""
         counts, missing = self.counts[number], str(self.missing[number])
         if number in self.unknown:
@@ -148,7 +143,7 @@ class Audit:
         return (f"skipped-sets {counts.skipped}, missing {missing}, records {counts.records}, rows {counts.rows}")
 
 
-def columns_of(output):
+def columns_of(output: tuple[int, IO[bytes]]) -> Iterator[list[list[int]]]:
     """Yields the columns of parts of an output, which begins with a File of some number."""
     number, out = output
     out.seek(len(COLUMNS))
@@ -164,6 +159,6 @@ def columns_of(output):
         yield columns
 
 
-def messages_of(columns):
+def messages_of(columns: list[list[int]]) -> Iterator[losses.Message]:
     """Returns the messages of some columns. It makes tuples of them without calls of Python."""
-    return map(functools.partial(tuple.__new__, losses.Message), zip(*columns))
+    return map(tuple.__new__, itertools.repeat(losses.Message), zip(*columns))

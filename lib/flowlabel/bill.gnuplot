@@ -4,7 +4,7 @@
 #     gnuplot -e "minutes = 'FILE'; picture = 'FILE.svg'" lib/flowlabel/bill.gnuplot
 #
 # The bill is a table of `flowlabel uniq` or `flowlabel-report` with one label first, such as dst-label, and a column
-# `bytes`. Its bars are in the order of its lines. The table of sums by minute is what `flowlabel-report --by minute`
+# `bytes`. Its bars are in the order of its lines. The table of sums by minute is what `flowlabel-many sum --by minute`
 # prints. A table without lines gives an empty picture.
 
 table = exists("minutes") ? minutes : bill

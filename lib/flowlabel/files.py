@@ -1,7 +1,8 @@
 """IPFIX Files: which of them are meant, what flowlabel-many prints of them, and what a file is that it refuses."""
 
+from __future__ import annotations
+
 import collections
-import errno
 import fcntl
 import fnmatch
 import itertools
@@ -10,9 +11,14 @@ import re
 import signal
 import stat
 import subprocess
-import tempfile
 
-import shared
+from flowlabel import disk, process, programs
+
+TYPE_CHECKING = False
+if TYPE_CHECKING:
+    import argparse
+    from collections.abc import Iterator
+    from typing import IO, BinaryIO
 
 # How a compressed file begins, the program that made it, and the one that reads it.
 COMPRESSED = ((rb"\x1f\x8b", "gzip", "zcat"), (rb"\x28\xb5\x2f\xfd", "zstd", "zstdcat"), (rb"\xfd7zXZ", "xz", "xzcat"),
@@ -50,11 +56,6 @@ CAUSES = {
     "S3": "A flow begins after the year 9999, so its time is wrong. Leave out --by",
 }
 FAULT = re.compile(r"(?m)^flowlabel(?:-many)?: (.*): ([FMS]\d+) \w+( X\d)? at (\d+)$")
-# The options that name Files.
-OPTIONS = shared.Parser("", add_help=False)
-OPTIONS.add_argument("-r", "--recursive", action="store_true")
-OPTIONS.add_argument("--except", action="append", default=[], dest="left_out")
-OPTIONS.add_argument("names", metavar="FILE", nargs="+")
 # So many bytes of names fit into a command line, and so many bytes of Files are worth a process of their own.
 NAMES, WORTH = 1 << 20, 1 << 24
 
@@ -62,30 +63,30 @@ NAMES, WORTH = 1 << 20, 1 << 24
 class File:
     """A File: its name, and which bytes it had at first."""
 
-    def __init__(self, name, is_named):
+    def __init__(self, name: str, is_named: bool) -> None:
         # A name that begins with a dash is no option.
         self.name, self.is_named = f"./{name}" if name.startswith("-") else name, is_named
-        with shared.regular(self.name, follow=is_named) as file:
+        with disk.regular(self.name, follow=is_named) as file:
             found, self.is_written, header = os.fstat(file.fileno()), is_written(file), file.read(16)
         self.size, self.state = found.st_size, state_of(found)
         # The time at which the first message was exported.
         self.time = int.from_bytes(header[4:8], "big") if header[:2] == b"\0\x0a" else 0
 
-    def __str__(self):
+    def __str__(self) -> str:
         return self.name
 
-    def check(self):
+    def check(self) -> None:
         """Fails if the File has changed since."""
         if state_of(os.stat(self.name)) != self.state:
-            raise shared.Failure(f"{self}: it has changed meanwhile")
+            raise process.Failure(f"{self}: it has changed meanwhile")
 
 
-def state_of(found):
+def state_of(found: os.stat_result) -> tuple[int, int, int, int]:
     """Returns what changes if somebody writes to a file, or replaces it."""
     return found.st_dev, found.st_ino, found.st_size, found.st_mtime_ns
 
 
-def is_written(file):
+def is_written(file: BinaryIO) -> bool:
     """Returns whether a process has an open file open for writing. The kernel gives no read lease of it then. It tells
     only the owner and root."""
     # Who opens it in this moment would send this signal.
@@ -94,14 +95,23 @@ def is_written(file):
         fcntl.fcntl(file, fcntl.F_SETLEASE, fcntl.F_RDLCK)
         fcntl.fcntl(file, fcntl.F_SETLEASE, fcntl.F_UNLCK)
     except OSError as why:
-        return why.errno == errno.EAGAIN
+        return isinstance(why, BlockingIOError)
     return False
 
 
-def files_of(options):
+def add_options(parser: argparse.ArgumentParser) -> None:
+    """Adds the options that name Files."""
+    parser.add_argument("names", metavar="FILE", nargs="+", help="a File, or a FOLDER with Files")
+    parser.add_argument("-r", "--recursive", action="store_true", help="FOLDERs also have the Files of folders below")
+    parser.add_argument("--except", metavar="PATTERN", action="append", default=[], dest="left_out",
+                        help="leaves out such names in FOLDERs, for example '*.gz'; it may be repeated")
+
+
+def files_of(options: argparse.Namespace) -> list[File]:
     """Returns the Files that are named, and those in named folders, by the times of their first messages. What else is
     in a folder is refused unless its name has one of the patterns that are left out."""
-    files, others = [], []
+    files: list[File] = []
+    others: list[str] = []
     for name in options.names:
         if os.path.isdir(name):
             found = [*in_folder(name, options, others)]
@@ -111,22 +121,21 @@ def files_of(options):
         else:
             files.append(File(name, True))
     others += (f"{one}: a process is writing it" for one in files if one.is_written and not one.is_named)
-    shared.warn_all(others)
+    process.warn_all(others)
     if others:
-        raise shared.Failure("what is in a folder must be in the sums: name these, leave them out with --except "
-                             "PATTERN, or read folders below with -r")
+        raise process.Failure("what is in a folder must be in the sums: name these, leave them out with --except "
+                              "PATTERN, or read folders below with -r")
+    places: dict[tuple[int, ...], File] = {}
     for one in files:
         if one.is_written:
-            shared.warn(f"{one}: a process is writing it")
-    places = {}
-    for one in files:
+            process.warn(f"{one}: a process is writing it")
         other = places.setdefault(one.state[:2], one)
         if other is not one:
-            raise shared.Failure(f"{one}: the same file as {other}")
+            raise process.Failure(f"{one}: the same file as {other}")
     return sorted(files, key=lambda one: one.time)
 
 
-def in_folder(folder, options, others):
+def in_folder(folder: str, options: argparse.Namespace, others: list[str]) -> Iterator[str]:
     """Yields the names of Files in a folder, and adds what else is there to others. Links are not followed."""
     for name in sorted(os.listdir(folder), key=os.fsencode):
         path = os.path.join(folder, name)
@@ -143,13 +152,13 @@ def in_folder(folder, options, others):
                                          "begins with no dot"))
 
 
-def parts_of(files):
+def parts_of(files: list[File]) -> tuple[int, list[list[File]]]:
     """Returns how many runs of flowlabel-many there may be at a time, and the Files of each run."""
-    jobs, size = os.environ.get("JOBS", ""), sum(one.size for one in files)
-    if jobs and not re.fullmatch("0*[1-9][0-9]{0,3}", jobs):
-        raise shared.Failure(f"JOBS: no number of runs: {jobs}", 2)
-    jobs = int(jobs or min(len(os.sched_getaffinity(0)), 1 + size // WORTH))
-    parts, room, names = [[]], size / jobs, 0
+    wanted, size = os.environ.get("JOBS", ""), sum(one.size for one in files)
+    if wanted and not re.fullmatch("0*[1-9][0-9]{0,3}", wanted):
+        raise process.Failure(f"JOBS: no number of runs: {wanted}", 2)
+    jobs = int(wanted or min(len(os.sched_getaffinity(0)), 1 + size // WORTH))
+    parts, room, names = [files[:0]], size / jobs, 0
     for one in files:
         if parts[-1] and (room < one.size / 2 and len(parts) < jobs or names + len(one.name) > NAMES):
             parts.append([])
@@ -159,39 +168,40 @@ def parts_of(files):
     return jobs, parts
 
 
-def run(words, files):
+def run(words: list[str], files: list[File]) -> Iterator[tuple[list[File], IO[bytes]]]:
     """Yields what flowlabel-many prints of some Files, with the Files, in their order: one file for each run of it.
-    If a run fails, its fault is explained, and the script ends with its status."""
-    jobs, parts = parts_of(files)
-    ahead, running = iter(parts), collections.deque()
+    If a run fails, its fault is explained, and the command ends with its status."""
+    import tempfile
+    running: collections.deque[tuple[subprocess.Popen[bytes], IO[bytes], IO[bytes]]] = collections.deque()
+    (jobs, parts), program = parts_of(files), programs.find("flowlabel-many")
+    ahead = iter(parts)
     try:
         for part in parts:
             for its in itertools.islice(ahead, jobs - len(running)):
                 out, said = tempfile.TemporaryFile(), tempfile.TemporaryFile()
-                words_of_part = [shared.PROGRAM, "--many", *words, *map(str, its)]
-                running.append((subprocess.Popen(words_of_part, stdin=subprocess.DEVNULL, stdout=out, stderr=said), out,
-                                said))
-            process, out, said = running[0]
-            status = process.wait()
+                running.append((subprocess.Popen([program, *words, *map(str, its)], stdin=subprocess.DEVNULL,
+                                                 stdout=out, stderr=said), out, said))
+            started, out, said = running[0]
+            status = started.wait()
             said.seek(0)
             explain(said.read())
-            shared.ended_well(status)
+            programs.ended_well(status)
             out.seek(0)
             yield part, out
             running.popleft()
     finally:
-        for process, *_ in running:
-            process.kill()
-            process.wait()
+        for started, *_ in running:
+            started.kill()
+            started.wait()
 
 
-def explain(said):
+def explain(said: bytes) -> None:
     """Prints what flowlabel-many has printed on standard error, and the cause and the cure of a fault of a File."""
     fault = FAULT.search(said.decode(errors="surrogateescape"))
     if not fault or not os.path.isfile(fault[1]) or fault[2][0] == "M":
-        shared.say_with_cure(said)
+        programs.say_with_cure(said)
         return
-    shared.say_error(said)
+    process.say_error(said)
     name, offset = fault[1], int(fault[4])
     with open(name, "rb") as file:
         start = file.read(16)
@@ -200,10 +210,10 @@ def explain(said):
         if causes:
             cause = causes[0].replace("{version}", "".join(map(str, start[1:2])))
             file.seek(0)
-            shared.warn(f"{name}: {cause.replace('{message}', str(message_at(file, offset)))}")
+            process.warn(f"{name}: {cause.replace('{message}', str(message_at(file, offset)))}")
 
 
-def message_at(file, offset):
+def message_at(file: BinaryIO, offset: int) -> int:
     """Returns the offset of the message in which a fault is."""
     begin = end = 0
     while end <= offset and len(header := file.read(4)) == 4:

@@ -1,16 +1,22 @@
 """Tables of flowlabel, of flowlabel-many and of the commands: how they are read, added up and printed."""
 
-import csv
-import datetime
+from __future__ import annotations
+
 import itertools
-import json
 import operator
 import re
 import socket
 import types
 
-import shared
+from flowlabel import addresses, process
 
+TYPE_CHECKING = False
+if TYPE_CHECKING:
+    import argparse
+    from collections.abc import Container, Iterable, Iterator
+    from typing import IO, Any, NoReturn
+
+Chunk = list[list[bytes]]
 # The columns of tables of sums: addresses, labels, other fields, times and totals.
 ADDRESSES, LABELS = [b"sip", b"dip"], [b"src-label", b"dst-label"]
 FIELDS = (*ADDRESSES, *LABELS, b"sport", b"dport", b"proto", b"flags")
@@ -22,51 +28,50 @@ ROWS = "sip dip sport dport proto flags packets bytes stime etime".encode().spli
 # The columns that have texts, and in JSON are strings.
 TEXTS = {*LABELS, *ADDRESSES, b"label", b"address", *TIMES}
 NO_CELL = "a cell isn't what its column has"
-# The options of what is printed.
-OUTPUT = shared.Parser("", add_help=False)
-for option in ("--csv", "--json", "--strings"):
-    OUTPUT.add_argument(option, action="store_true")
 # The number of bytes that are split at a time, so that the parts fit into the cache of a processor.
 CHUNK = 1 << 15
 
 
-class Sums(dict):
+class Sums(dict[tuple[bytes, ...], list[int]]):
     """The totals of groups, by a key of cells of some columns. A group that isn't there yet gets the totals 0."""
 
-    def __init__(self, columns):
+    def __init__(self, columns: list[bytes]) -> None:
         super().__init__()
         self.columns = columns
 
-    def order(self, key):
+    def order(self, key: tuple[bytes, ...]) -> list[object]:
         """Returns the order of a key, as that of its cells. Raises ValueError if the columns can't have these."""
         return [*map(cell_order, self.columns, key)]
 
-    def __missing__(self, key):
+    def __missing__(self, key: tuple[bytes, ...]) -> list[int]:
         self.order(key)
         self[key] = [0, 0, 0]
         return self[key]
 
-    def add(self, keys, records, packets, octets):
-        """Adds the totals of lines to the groups of their keys."""
-        for key, its_records, its_packets, its_octets in zip(keys, records, packets, octets):
-            group = self[key]
-            group[0] += its_records
-            group[1] += its_packets
-            group[2] += its_octets
+    def add(self, table: Table, chunk: Chunk, indexes: Iterable[int], totals: list[Iterable[int]]) -> None:
+        """Adds the totals of lines to the groups of their keys, which are in the columns of some indexes."""
+        columns = [chunk[index] for index in indexes]
+        try:
+            for key, records, packets, octets in zip(zip(*columns), *totals):
+                group = self[key]
+                group[0] += records
+                group[1] += packets
+                group[2] += octets
+        except ValueError:
+            table.fail(NO_CELL, next(place for *key, place in zip(*columns, table.places) if (*key,) not in self))
 
-    def add_table(self, table):
-        """Adds the lines of a table of sums with the same columns."""
+    def add_table(self, table: Table) -> None:
+        """Adds a table of sums with the same columns."""
         if table.columns != [*self.columns, *TOTALS]:
-            raise shared.Failure(f"{table.name}: it has other columns")
+            raise process.Failure(f"{table.name}: it has other columns")
         for chunk in table.chunks():
-            *keys, records, packets, octets = map(chunk.column, range(chunk.width))
-            self.add(zip(*keys), map(int, records), map(int, packets), map(int, octets))
+            self.add(table, chunk, range(len(self.columns)), table.totals(chunk))
 
-    def count(self):
+    def count(self) -> int:
         """Returns the number of rows."""
         return sum(records for records, _, _ in self.values())
 
-    def unlabelled(self):
+    def unlabelled(self) -> Iterator[str]:
         """Yields a warning if records have no label."""
         places = [place for place, column in enumerate(self.columns) if column in LABELS]
         if count := sum(totals[0] for key, totals in self.items() if any(not key[place] for place in places)):
@@ -74,21 +79,24 @@ class Sums(dict):
                    "ipv6' at the top of the map")
 
 
-def cell_order(column, cell):
+def cell_order(column: bytes, cell: bytes) -> object:
     """Returns the order of a cell among those of its column: addresses, times and numbers by value, and labels by their
-    bytes. The number of a time is its order. Raises ValueError if the column can't have it."""
-    if column in LABELS or isinstance(cell, int):
+    bytes. Raises ValueError if the column can't have it."""
+    if column in LABELS:
         return cell
     if column in TIMES:
         found = TIMES[column].fullmatch(cell)
         if not found:
             raise ValueError
+        if not found[2]:
+            return int(found[1] or -1), cell
         # Of a time zone.
-        return int(found[1] or -1), datetime.datetime.fromisoformat(cell.decode()).timestamp() if found[2] else cell
+        import datetime
+        return int(found[1]), datetime.datetime.fromisoformat(cell.decode()).timestamp()
     if column in ADDRESSES:
         is_six = b":" in cell
         try:
-            return is_six, socket.inet_pton(shared.FAMILIES[6 if is_six else 4], cell.decode())
+            return is_six, socket.inet_pton(addresses.FAMILIES[6 if is_six else 4], cell.decode())
         except OSError:
             raise ValueError from None
     if not NUMBER.fullmatch(cell):
@@ -96,29 +104,12 @@ def cell_order(column, cell):
     return int(cell)
 
 
-class Chunk:
-    """Some lines of a table: a list of all their cells, line by line."""
-
-    def __init__(self, cells, width, places):
-        # Each line has a place, which is the number of lines before it in the whole chunk.
-        self.cells, self.width, self.places = cells, width, places
-
-    def column(self, index):
-        """Returns the cells of a column."""
-        return self.cells[index::self.width]
-
-    def only(self, wanted):
-        """Returns the lines for which a list has a true value."""
-        lines = zip(*map(self.column, range(self.width)))
-        cells = itertools.chain.from_iterable(itertools.compress(lines, wanted))
-        return Chunk([*cells], self.width, [*itertools.compress(self.places, wanted)])
-
-
 class Table:
-    """The header of a table, and its lines."""
+    """The header of a table, and its lines, which come in chunks: lists of the cells of each column."""
 
-    def __init__(self, name, file):
-        self.name, self.file, self.line = name, file, 1
+    def __init__(self, name: str, file: IO[bytes]) -> None:
+        # The number of the first line of a chunk, and for each of its lines how many are before it.
+        self.name, self.file, self.line, self.places = name, file, 1, [0]
         header = file.readline()
         self.columns = header[:-1].split(b"|")
         self.is_rows = self.columns in (ROWS, ROWS + LABELS)
@@ -126,7 +117,7 @@ class Table:
         fields = self.columns[self.columns[0] in TIMES:-3]
         is_sums = len(self.columns) > 3 and self.columns[-3:] == TOTALS
         if not header:
-            raise shared.Failure(f"{name}: there is no table, not even a header")
+            raise process.Failure(f"{name}: there is no table, not even a header")
         if not header.endswith(b"\n") or not self.is_rows and not (
                 is_sums and {*fields} <= {*FIELDS} and len({*fields}) == len(fields)):
             self.fail("this is no header of `rows` or of sums (without --columns)")
@@ -134,18 +125,28 @@ class Table:
         # The columns whose cells must be numbers.
         self.numbers = {*TOTALS} & {*self.columns}
 
-    def fail(self, why, after=0):
+    def fail(self, why: str, after: int = 0) -> NoReturn:
         """Reports the fault of the line, or of one after it."""
-        raise shared.Failure(f"{self.name}: line {self.line + after}: {why}")
+        raise process.Failure(f"{self.name}: line {self.line + after}: {why}")
 
-    def index(self, name):
+    def index(self, name: bytes) -> int:
         """Returns the index of a column."""
         if name not in self.columns:
-            raise shared.Failure(f"{self.name}: the table has no column {name.decode(errors='replace')}")
+            raise process.Failure(f"{self.name}: the table has no column {name.decode(errors='replace')}")
         return self.columns.index(name)
 
-    def chunks(self):
-        """Yields the lines. `line` is the number of the first one of a chunk."""
+    def totals(self, chunk: Chunk) -> list[Iterable[int]]:
+        """Returns the totals of lines, one after the other. Each row is a record."""
+        return [*[itertools.repeat(1)] * self.is_rows,
+                *([*map(int, chunk[self.index(name)])] for name in TOTALS[self.is_rows:])]
+
+    def only(self, chunk: Chunk, wanted: list[bool]) -> Chunk:
+        """Returns the lines for which a list has a true value."""
+        self.places = [*itertools.compress(self.places, wanted)]
+        return [[*itertools.compress(column, wanted)] for column in chunk]
+
+    def chunks(self) -> Iterator[Chunk]:
+        """Yields the lines."""
         self.line, width = 2, len(self.columns)
         while data := self.file.read(CHUNK):
             data += self.file.readline()
@@ -159,15 +160,14 @@ class Table:
             else:
                 cells = [cell for place, line in enumerate(data.split(b"\n")[:-1])
                          for cell in self.cells_of(line, place)]
-            chunk = Chunk(cells, width, range(count))
-            for name in self.numbers:
-                cells = chunk.column(self.index(name))
+            chunk, self.places = [cells[index::width] for index in range(width)], [*range(count)]
+            for cells in (chunk[self.index(name)] for name in self.numbers):
                 if not (b"".join(cells).isdigit() and all(cells)):
                     self.fail(NO_CELL, next(place for place, cell in enumerate(cells) if not cell.isdigit()))
             yield chunk
             self.line += count
 
-    def cells_of(self, line, place):
+    def cells_of(self, line: bytes, place: int) -> list[bytes]:
         """Returns the cells of a line. If there are too many, these can only be parts of one label."""
         cells, width = line.split(b"|"), len(self.columns)
         if len(cells) == width:
@@ -179,9 +179,25 @@ class Table:
         return [*cells[:start], b"|".join(cells[start:start + after]), *cells[start + after:]]
 
 
-def text_of(options, columns, lines, texts=TEXTS):
+def add_output(group: argparse._ActionsContainer) -> None:
+    """Adds the options of what is printed."""
+    for name, text in (("csv", "CSV of RFC 4180, in place of a table"),
+                       ("json", "an object of JSON per line, in place of a table"),
+                       ("strings", "with --json: numbers are strings, since some readers round those above 2^53")):
+        group.add_argument(f"--{name}", action="store_true", help=text)
+
+
+def check_output(parser: argparse.ArgumentParser, options: argparse.Namespace) -> None:
+    """Refuses options of what is printed that exclude each other."""
+    if options.csv and options.json or options.strings and not options.json:
+        parser.error("choose --csv or --json, and --strings only with --json")
+
+
+def text_of(options: argparse.Namespace, columns: list[bytes], lines: Iterable[Iterable[bytes]],
+            texts: Container[bytes] = TEXTS) -> Iterator[bytes]:
     """Yields the lines of the output, in which some columns have texts."""
     if options.json:
+        import json
         before = [json.dumps(name.decode()) + ": " for name in columns]
         quotes = [name in texts or options.strings for name in columns]
         for cells in lines:
@@ -189,16 +205,12 @@ def text_of(options, columns, lines, texts=TEXTS):
                       if cell.isdigit() else cell.decode() for cell, is_quoted in zip(cells, quotes))
             yield ("{" + ", ".join(map(operator.add, before, values)) + "}\n").encode()
     elif options.csv:
+        import csv
         # What `write` returns, a row of the module csv returns too. Latin-1 has a character for each byte.
-        row = csv.writer(types.SimpleNamespace(write=lambda line: line.encode("latin-1"))).writerow
+        file: Any = types.SimpleNamespace(write=lambda line: line.encode("latin-1"))
+        row = csv.writer(file).writerow
         for cells in itertools.chain([columns], lines):
             yield row([cell.decode("latin-1") for cell in cells])
     else:
         for cells in itertools.chain([columns], lines):
             yield b"|".join(cells) + b"\n"
-
-
-def check_output(parser, options):
-    """Refuses options of what is printed that exclude each other."""
-    if options.csv and options.json or options.strings and not options.json:
-        parser.error("choose --csv or --json, and --strings only with --json")

@@ -1,20 +1,34 @@
 """The templates of IPFIX messages and Files: what they say about sums, and which messages come again."""
 
+from __future__ import annotations
+
 import array
 import collections
 import heapq
 import itertools
 import struct
 
-import shared
+from flowlabel import process
 
+TYPE_CHECKING = False
+if TYPE_CHECKING:
+    from collections.abc import Callable, Container, Iterable, Iterator
+    from typing import BinaryIO
+
+# The number or the text of an element, and what a record has.
+Element = int | str
+Values = dict[Element, bytes]
+# A domain and an ID, perhaps with whether the template is one of options, and its specifiers.
+Name = tuple[int, int]
+Definition = tuple[int, int, bool, bytes]
 HEADER, PAIR = struct.Struct(">HHIII"), struct.Struct(">HH")
 # The numbers of usable elements of a row (docs/FORMATS.md), each with the lengths of its field. The number of a reverse
 # element (RFC 5103) is negative, and an element of another enterprise has a text.
 ADDRESSES = ((8, 12), (27, 28))
 BYTES, REVERSE_PACKETS, REVERSE_BYTES = {1, 85}, {-2, -86}, {-1, -85}
 COUNTS = (("packets (element 2 or 86)", {2, 86}), ("bytes (element 1 or 85)", BYTES))
-LENGTHS = {8: [4], 12: [4], 27: [16], 28: [16], **dict.fromkeys((1, 2, 85, 86, -1, -2, -85, -86), range(1, 9))}
+LENGTHS: dict[Element, Container[int]] = {
+    8: [4], 12: [4], 27: [16], 28: [16], **dict.fromkeys((1, 2, 85, 86, -1, -2, -85, -86), range(1, 9))}
 VARIABLE, REVERSE = 65535, 29305
 MALFORMED = "is malformed"
 # Elements that say how packets are sampled: one of N, N at random, packets taken and left out, and the size of a sample
@@ -35,18 +49,18 @@ class Template:
 
     __slots__ = ("domain", "name", "is_options", "fields", "shortest", "is_used", "sampled", "sampling", "flows")
 
-    def __init__(self, domain, name, is_options, specifiers):
+    def __init__(self, domain: int, name: int, is_options: bool, specifiers: bytes) -> None:
         self.domain, self.name, self.is_options, self.fields = domain, name, is_options, [*fields_of(specifiers)]
         self.shortest = sum(1 if length == VARIABLE else length for _, length in self.fields)
-        self.is_used, self.sampled = False, 0
+        self.is_used, self.sampled = False, 0.0
         elements = {element for element, _ in self.fields}
         self.sampling = self.values_of(elements.intersection(SAMPLING))
-        self.flows = DIRECTION in elements and not self.is_options and self.values_of({DIRECTION, *KEY})
+        self.flows = self.values_of({DIRECTION, *KEY} if DIRECTION in elements and not is_options else set())
 
-    def __str__(self):
+    def __str__(self) -> str:
         return f"the template {self.name} of the domain {self.domain}"
 
-    def values_of(self, wanted):
+    def values_of(self, wanted: set[Element]) -> Callable[[bytes], Iterator[Values]] | None:
         """Returns what yields the values of some elements of each record, by their elements, or None."""
         names = [element for element, _ in self.fields if element in wanted]
         if not names or not self.shortest:
@@ -59,7 +73,7 @@ class Template:
         return lambda body: ({element: body[place:place + size] for element, place, size in record
                               if element in wanted} for record in records_of(self.fields, self.shortest, body))
 
-    def found(self):
+    def found(self) -> Iterator[tuple[str | None, str]]:
         """Yields what is found of the template, each with the kind of what is certainly wrong, or None."""
         names = ", ".join(str(element) if not isinstance(element, int) or element > 0 else f"reverse {-element}"
                           for element, _ in self.fields[:40])
@@ -85,24 +99,24 @@ class Template:
 class Templates:
     """The templates of a File, and the data sets that have none in force."""
 
-    def __init__(self, name, number, seen):
+    def __init__(self, name: str, number: int, seen: Seen) -> None:
         self.name, self.number, self.seen = name, number, seen
         # The values of a template by domain and ID, None if it is withdrawn, the templates of data sets by these
         # values, and the domains.
-        self.known, self.all, self.domains = {}, {}, set()
+        self.known, self.all, self.domains = dict[Name, Definition | None](), dict[Definition, Template](), set[int]()
         # The IDs of the templates that are known, by domain and whether they are of options.
-        self.kinds = collections.defaultdict(set)
+        self.kinds = collections.defaultdict[tuple[int, bool], set[int]](set)
         # The offset of the first definition, and the number of skipped sets.
-        self.defined, self.skipped = {}, collections.Counter()
+        self.defined, self.skipped = dict[Name, int](), collections.Counter[Name]()
         # Whether the first skipped set of an ID comes after its template was withdrawn.
-        self.first_skipped = {}
+        self.first_skipped = dict[Name, bool]()
         # By domain and ID, the templates that others have replaced since the last withdrawal, and how many there are in
         # all. Where a template was replaced first, and whether a replaced one has come back.
-        self.replaced, self.layouts, self.changed = {}, 0, {}
+        self.replaced, self.layouts, self.changed = dict[Name, set[Definition]](), 0, dict[Name, tuple[int, bool]]()
         # The directions of flows, by their hashes, which are smaller than their keys.
-        self.directions = {}
+        self.directions = dict[int, int]()
 
-    def read(self, file):
+    def read(self, file: BinaryIO) -> None:
         """Reads the messages of a File. What is malformed ends this: flowlabel-many refuses the File."""
         offset = 0
         for number in itertools.count(1):
@@ -125,7 +139,7 @@ class Templates:
                 self.seen.see(self.number, number, time, hash((header[4:] if time else domain, *data)))
             offset += length
 
-    def read_sets(self, domain, offset, body):
+    def read_sets(self, domain: int, offset: int, body: bytes) -> list[tuple[int, bytes]]:
         """Reads the sets of a message, and returns its data sets."""
         data = []
         for name, content in sets_of(body):
@@ -141,7 +155,7 @@ class Templates:
                 self.look(template, content)
         return data
 
-    def template(self, domain, name):
+    def template(self, domain: int, name: int) -> Template | None:
         """Returns the template of a data set, or None if no template is in force, so that the set is skipped."""
         key = domain, name
         found = self.known.get(key)
@@ -153,23 +167,23 @@ class Templates:
             return None
         return self.all.get(found) or self.all.setdefault(found, Template(*found))
 
-    def refuse_many(self):
+    def refuse_many(self) -> None:
         """Refuses a File with more domains or the like than any exporter has, for which memory might not suffice."""
         if len(self.domains) + len(self.known) + len(self.skipped) + len(self.all) + self.layouts > MOST:
-            raise shared.Failure(f"{self.name}: it has more than {MOST} domains, templates and IDs of skipped sets")
+            raise process.Failure(f"{self.name}: it has more than {MOST} domains, templates and IDs of skipped sets")
 
-    def define(self, domain, offset, kind, body):
+    def define(self, domain: int, offset: int, kind: int, body: bytes) -> None:
         """Reads the definitions and withdrawals of a template set."""
         is_options = kind == 3
         for name, record in definitions(kind, body):
             if not record:
-                for ended in [name] if name >= 256 else self.kinds.pop((domain, is_options), ()):
+                for ended in [name] if name >= 256 else self.kinds.pop((domain, is_options), set()):
                     if (domain, ended) in self.known:
                         self.known[domain, ended] = None
                         self.replaced.pop((domain, ended), None)
                 continue
             before, new = self.known.get((domain, name)), (domain, name, is_options, record[4 + 2 * is_options:])
-            if before not in (None, new):
+            if before and before != new:
                 self.replace(before, new, offset)
             self.known[domain, name] = new
             self.refuse_many()
@@ -177,7 +191,7 @@ class Templates:
             self.kinds[domain, not is_options].discard(name)
             self.defined.setdefault((domain, name), offset)
 
-    def replace(self, before, new, offset):
+    def replace(self, before: Definition, new: Definition, offset: int) -> None:
         """Notes that a template is replaced by another one with the same ID, which no withdrawal precedes. One exporter
         does this at most when its configuration changes. Several that share the domain do it to and fro."""
         key = before[:2]
@@ -187,7 +201,7 @@ class Templates:
         first, is_back = self.changed.get(key, (offset, False))
         self.changed[key] = first, is_back or new in replaced
 
-    def look(self, template, body):
+    def look(self, template: Template, body: bytes) -> None:
         """Looks how packets of a data set's records are sampled, and in which direction flows were seen."""
         for values in template.sampling(body) if template.sampling else ():
             template.sampled = max(template.sampled, rate(values))
@@ -197,7 +211,7 @@ class Templates:
                 self.directions[key] = self.directions.get(key, 0) | 1 << (values[DIRECTION][-1:] == b"\1")
                 self.seen.compared += 1
 
-    def why_skipped(self, key):
+    def why_skipped(self, key: Name) -> str:
         """Returns why data sets of a domain and an ID are skipped."""
         domain, name = key
         if name < 256:
@@ -212,7 +226,7 @@ class Templates:
             return f"only the domain {', '.join(others)} has a template of this ID"
         return "their template isn't in the File. Start the recording before the exporter"
 
-    def found(self):
+    def found(self) -> Iterator[tuple[str | None, str]]:
         """Yields what is found, each with the kind of what is certainly wrong, or None."""
         for key, count in self.skipped.items():
             yield "skipped", (f"{count} sets with the ID {key[1]} of the domain {key[0]} are skipped, so their records "
@@ -235,23 +249,24 @@ class Templates:
 class Seen:
     """What is compared between Files: the messages that have data sets, by their hashes."""
 
-    def __init__(self):
+    def __init__(self) -> None:
         # How many flows were compared.
         self.compared = 0
         # The File of each message. It is forgotten when Files begin that are later than all messages of its File.
-        self.origins, self.ended, self.hashes, self.last, self.count = {}, [], array.array("q"), 0, 0
+        self.ended: list[tuple[int, int, array.array[int]]] = []
+        self.origins, self.hashes, self.last, self.count = dict[int, int](), array.array("q"), 0, 0
         # The messages that came again, each by its File and its number: in the same File, or in another one. Of each
         # File with such messages, a File that has some of them too.
-        self.again, self.elsewhere, self.others = set(), set(), {}
+        self.again, self.elsewhere, self.others = set[tuple[int, int]](), set[tuple[int, int]](), dict[int, int]()
 
-    def begin(self, time):
+    def begin(self, time: int) -> None:
         """Begins a File, whose first message has this time."""
         while self.ended and self.ended[0][0] + SLACK < time:
             for one in heapq.heappop(self.ended)[2]:
                 del self.origins[one]
         self.hashes, self.last, self.count = array.array("q"), 0, len(self.origins)
 
-    def see(self, file, number, time, digest):
+    def see(self, file: int, number: int, time: int, digest: int) -> None:
         """Looks whether a message was seen before."""
         origin = self.origins.setdefault(digest, file)
         if origin != file:
@@ -264,12 +279,12 @@ class Seen:
         self.count = len(self.origins)
         self.last = max(self.last, time)
 
-    def end(self, file):
+    def end(self, file: int) -> None:
         """Ends a File."""
         heapq.heappush(self.ended, (self.last, file, self.hashes))
 
 
-def sets_of(body):
+def sets_of(body: bytes) -> Iterator[tuple[int, bytes]]:
     """Yields the sets of a message, each as its ID and its content."""
     place = 0
     while place < len(body):
@@ -280,7 +295,7 @@ def sets_of(body):
         place += size
 
 
-def definitions(kind, body):
+def definitions(kind: int, body: bytes) -> Iterator[tuple[int, bytes]]:
     """Yields the templates of a set (RFC 7011, sections 3.4 and 8.1), each as its ID and its bytes, which are empty if
     it is withdrawn. The kind of a set is its ID."""
     place = 0
@@ -300,7 +315,7 @@ def definitions(kind, body):
         yield name, body[begin:place] if count else b""
 
 
-def fields_of(specifiers):
+def fields_of(specifiers: bytes) -> Iterator[tuple[Element, int]]:
     """Yields the fields of a template, each an element and a length."""
     place = 0
     while place < len(specifiers):
@@ -313,10 +328,10 @@ def fields_of(specifiers):
         yield element, length
 
 
-def rate(values):
+def rate(values: Values) -> float:
     """Returns of how many packets one is sampled, by the elements of a record, or 0 if all are."""
     number = {element: int.from_bytes(value, "big") for element, value in values.items() if len(value) <= 8}
-    rates = [number.get(34, 0), number.get(50, 0)]
+    rates: list[float] = [number.get(34, 0), number.get(50, 0)]
     if number.get(305):
         rates.append((number[305] + number.get(306, 0)) / number[305])
     if number.get(309):
@@ -324,7 +339,8 @@ def rate(values):
     return max(rates) if max(rates) > 1 else 0
 
 
-def records_of(fields, shortest, body):
+def records_of(fields: Iterable[tuple[Element, int]], shortest: int,
+               body: bytes) -> Iterator[list[tuple[Element, int, int]]]:
     """Yields the records of a data set, each as its elements with their offsets and sizes."""
     place = 0
     while len(body) - place >= shortest:

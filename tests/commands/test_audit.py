@@ -12,7 +12,7 @@ import os
 import struct
 import subprocess
 
-from support import FOREVER, PROGRAM, ROOT, Case, command, exporters, needs, read, rows, run, texts, write
+from support import FOREVER, PROGRAM, ROOT, Case, command, exporters, inside, needs, read, rows, run, texts, write
 from support.ipfix import FOUR, SUMS, message, sets, template
 
 AUDIT = command("audit")
@@ -23,7 +23,7 @@ class Audit(Case):
 
     def audit(self, *words):
         """Runs the command, and returns its status and its two outputs."""
-        return texts(AUDIT, *words)
+        return inside.texts("audit", *words)
 
 # Files of exporters that lack nothing.
 SESSIONS = ("pmacctd.ipfix", "softflowd.ipfix", "softflowd-milli.ipfix", "softflowd-biflow.ipfix")

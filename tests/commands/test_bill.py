@@ -16,10 +16,10 @@ import shutil
 import signal
 import struct
 import subprocess
+import sys
 
-from support import MANY, Case, cluster, command, needs, processes, read, rows, stand_in, texts, write
-from support import write_program
-from support.forked import Forked
+from support import MANY, PROGRAM, Case, cluster, command, inside, needs, processes, read, rows, run, stand_in, texts
+from support import write, write_program
 from support.ipfix import FOUR, SUMS, message, sets, template
 from support.namespaces import Isolated
 
@@ -181,12 +181,11 @@ class Made(Case):
     @classmethod
     def prepare(cls):
         write("map", CUSTOMERS)
-        cls.command = Forked("bill", "audit", "files", "machines", "tables", "calendar", "zoneinfo")
 
     def bill(self, month, *words):
         """Writes a month, and runs the command by customer."""
         month.write()
-        return self.command.texts(*words, "--fields", "dst-label", "--pmap", "map", "month")
+        return inside.texts("bill", *words, "--fields", "dst-label", "--pmap", "map", "month")
 
 
 class Months(Made):
@@ -370,7 +369,7 @@ class Complete(Case):
 
     def bill(self, *words, fields="dst-label", **variables):
         """Runs the command with the map."""
-        return texts(BILL, "--fields", fields, "--pmap", "map", *words, variables=variables)
+        return inside.texts("bill", "--fields", fields, "--pmap", "map", *words, variables=variables)
 
     @rows(*IN_FOLDER)
     def test_folder(self, others, options, count, line):
@@ -407,7 +406,7 @@ class Complete(Case):
           (("temporary",), f"flowlabel-bill: temporary: no File in it\nflowlabel-bill: {WITHOUT}\n", 1),
           (("/dev/null",), "flowlabel-bill: /dev/null: not a regular file\n", 1),
           (("--pmap", "none", "one.ipfix"), "flowlabel-bill: none: No such file or directory\n", 4),
-          (("--list", "/dev/stdin", "one.ipfix"), "flowlabel-bill: /dev/stdin: not a regular file\n", 1))
+          (("--list", "/dev/null", "one.ipfix"), "flowlabel-bill: /dev/null: not a regular file\n", 1))
     def test_fault(self, words, error, status):
         self.assertEqual(self.bill(*words), (status, "", error))
 
@@ -434,6 +433,24 @@ class Complete(Case):
         variables = {"FLOWLABEL_MANY": write_program("losing", LOSES), "MANY": MANY}
         self.assertEqual(self.bill("one.ipfix", **variables),
                          (1, "", "flowlabel-bill: the sums are those of 0 rows, and the Files have 1\n"))
+
+    def test_no_table(self):
+        """Another program whose table has a wrong cell is seen."""
+        variables = {"FLOWLABEL_MANY": write_program("wrong", WRONG), "MANY": MANY}
+        self.assertEqual(self.bill("one.ipfix", fields="dip", **variables), (
+            1, "", "flowlabel-bill: the table of flowlabel-many: line 2: a cell isn't what its column has\n"))
+
+    def test_flowlabel_alone(self):
+        """flowlabel-many is found beside the program that FLOWLABEL names."""
+        for name, program in (("flowlabel", PROGRAM), ("flowlabel-many", MANY)):
+            os.makedirs("built", exist_ok=True)
+            os.symlink(program, f"built/{name}")
+        variables = {"FLOWLABEL": "built/flowlabel", "FLOWLABEL_MANY": ""}
+        self.assertEqual(self.bill("one.ipfix", **variables), (0, TABLE.format(1, 3, 180), ""))
+        os.remove("built/flowlabel-many")
+        status, output, error = self.bill("one.ipfix", **variables)
+        self.assertEqual((status, output), (125, ""))
+        self.assertRegex(error, r"\Aflowlabel-bill: .*built/flowlabel-many.* FLOWLABEL .*FLOWLABEL_MANY\n\Z")
 
     @rows(*itertools.product((signal.SIGINT, signal.SIGTERM, signal.SIGHUP), ("messages", "sum")))
     def test_signal(self, number, command):
@@ -462,13 +479,14 @@ class Complete(Case):
             self.assertEqual((found, len(calls)), ((0, TABLE.format(3, 9, 540), ""), count))
 
 
-# Programs in place of flowlabel-many: one that changes a file before it sums, one that loses a row, one that sleeps,
-# and one that notes its words.
+# Programs in place of flowlabel-many: one that changes a file before it sums, one that loses a row, one that prints an
+# address that is none, one that sleeps, and one that notes its words.
 CHANGES = """#!/bin/sh
 [ "$1" = messages ] || [ "$4" = /dev/null ] || cp "$NEW" copy && mv copy "$NAME"
 exec "$MANY" "$@"
 """
 LOSES = '#!/bin/sh\n"$MANY" "$@" >all && { [ "$1" = messages ] && cat all || sed 2d all; }\n'
+WRONG = '#!/bin/sh\n"$MANY" "$@" >all && { [ "$1" = messages ] && cat all || sed "2s/[.]/,/" all; }\n'
 SLEEPS = """#!/bin/sh
 case $*,$SLEEPING in *null,*) ;; "$SLEEPING "*) echo $$ >new && mv new begun; exec sleep 3600 ;; esac
 exec "$MANY" "$@"
@@ -494,7 +512,7 @@ class Times(Case):
 
     def lines(self, *words):
         """Returns the lines of a bill without its header, each with its first two cells."""
-        status, output, error = texts(BILL, *words)
+        status, output, error = inside.texts("bill", *words)
         self.assertEqual(status, 0, error)
         return [line.rsplit("|", 2)[0] for line in output.splitlines()[1:]], error
 
@@ -537,13 +555,13 @@ class Times(Case):
         words = ("--month", "2026-11", "--fields", "proto", "november.ipfix")
         self.assertEqual(self.lines(*words), ([f"0|{len(months['november'])}"], ""))
         for name in ("october", "december"):
-            status, output, error = texts(BILL, *words, f"{name}.ipfix")
+            status, output, error = inside.texts("bill", *words, f"{name}.ipfix")
             self.assertEqual((status, output), (1, ""), error)
             self.assertRegex(error, "1 records of the domain 1 are missing")
 
     def test_no_time(self):
         words = ("--by", "day", "--month", "2026-11", "none.ipfix")
-        status, output, error = texts(BILL, *words)
+        status, output, error = inside.texts("bill", *words)
         self.assertEqual((status, output, error), (
             1, "", "flowlabel-bill: rows have no time. No sum is printed without --allow times\n"))
         self.assertEqual(self.lines("--allow", "times", *words)[0], ["0|1", "2026-11-01|1"])
@@ -558,16 +576,16 @@ class Times(Case):
           (("--scheduler", "tcp://127.0.0.1:1"), "--scheduler: not tcp"), (("--zone", ""), "there is no time zone"),
           (("--protocol", "6", "--protocol", "17"), "cannot be used multiple times"))
     def test_usage(self, words, part):
-        status, output, error = texts(BILL, "--by", "day", *words, "ends.ipfix")
+        status, output, error = inside.texts("bill", "--by", "day", *words, "ends.ipfix")
         self.assertEqual((status, output), (2, ""))
         self.assertIn(part, error)
 
     def test_formats(self):
         words = ("--by", "hour", "--fields", "dip", "--zone", "Europe/Berlin", "kathmandu.ipfix")
-        self.assertEqual(texts(BILL, "--csv", *words)[1],
+        self.assertEqual(inside.texts("bill", "--csv", *words)[1],
                          "hour,dip,records,packets,bytes\r\n2026-11-01T19+01:00,10.1.0.1,2,6,360\r\n")
         self.assertIn('{"hour": "2026-11-01T19+01:00", "dip": "10.1.0.1", "records": "2", ',
-                      texts(BILL, "--json", "--strings", *words)[1])
+                      inside.texts("bill", "--json", "--strings", *words)[1])
 
 
 # Notes which sockets there are.
@@ -607,7 +625,7 @@ class Parallel(Case):
         write("map", "10.1.0.0/16 {}\n")
 
     def bill(self, *words, **variables):
-        return texts(BILL, "--parallel", "--fields", "proto", *words, "days", variables=variables)
+        return inside.texts("bill", "--parallel", "--fields", "proto", *words, "days", variables=variables)
 
     def test_sums(self):
         self.assertEqual(self.bill(), (0, SUMMED, ""))
@@ -662,3 +680,38 @@ class Cluster(Isolated):
     def test_no_certificate(self):
         status, output, error = self.bill(cluster.WITHOUT_AUTHORITY)
         self.assertEqual((status, output, error.count("\n")), (1, "", 1), error)
+
+
+# A module in place of Dask's, which says where it is.
+DISTRIBUTED = """class KilledWorker(Exception): pass
+class TimeoutError(Exception): pass
+def Client(*_, **__): raise OSError(f"the module {__file__}")
+"""
+
+
+class WhichDask(Case):
+    """Which Dask is found: that of a virtual environment, and none of a user, or of a folder that a variable names."""
+
+    @classmethod
+    def prepare(cls):
+        write_days()
+
+    def bill(self, **variables):
+        return texts(BILL, "--scheduler", "tls://127.0.0.1:1", "--fields", "proto", "days", variables=variables)
+
+    def test_of_a_virtual_environment(self):
+        run(sys.executable, "-m", "venv", "--without-pip", "environment", check=True)
+        version = "{}.{}".format(*sys.version_info)
+        name = os.path.abspath(write(f"environment/lib/python{version}/site-packages/distributed.py", DISTRIBUTED))
+        path = f"{os.path.abspath('environment/bin')}:{os.environ['PATH']}"
+        self.assertEqual(self.bill(PATH=path), (
+            1, "", f"flowlabel-bill: Dask: tls://127.0.0.1:1: the module {name}\n"))
+
+    def test_of_a_user(self):
+        """Without certificates, the Dask of Debian gives up at once, if there is any."""
+        for version in ("{}.{}".format(*sys.version_info), "3.11"):
+            write(f"home/lib/python{version}/site-packages/distributed.py", DISTRIBUTED)
+        write("distributed.py", DISTRIBUTED)
+        status, output, error = self.bill(PYTHONUSERBASE=os.path.abspath("home"), PYTHONPATH=os.getcwd())
+        self.assertEqual((status, output, error.count("\n")), (1, "", 1), error)
+        self.assertNotIn("the module", error)

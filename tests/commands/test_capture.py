@@ -7,7 +7,7 @@ flows ten times, and the File must have all its records each time.
 import os
 import pathlib
 
-from support import ROOT, Case, command, needs, read, rows, run, stand_in, texts, write
+from support import ROOT, Case, command, inside, needs, read, rows, run, stand_in, texts, write
 from support.changes import planting
 from support.ipfix import message, sets
 
@@ -79,8 +79,8 @@ class StandIn(Case):
 
     def capture(self, file, sends, says, ends=0):
         """Runs the command over a capture `none`."""
-        return texts(command("capture"), "none", file,
-                     variables={**self.path, "SENDS": os.fspath(sends), "SAYS": says, "ENDS": str(ends)})
+        return inside.texts("capture", "none", file,
+                            variables={**self.path, "SENDS": os.fspath(sends), "SAYS": says, "ENDS": str(ends)})
 
     @rows(("pipe", "pipe"), ("link", "link"), ("other", "other.part"), (".", "."))
     def test_other_files(self, file, shown):
@@ -150,6 +150,6 @@ class Real(Case):
     @rows(*zip(range(1, 11)))
     def test_run(self, number):
         file = f"flows-{number}"
-        self.assertEqual(texts(command("capture"), "capture.pcap", file),
+        self.assertEqual(inside.texts("capture", "capture.pcap", file),
                          (0, f"{file}: {FLOWS} records, as many as softflowd sent\n", ""))
         self.assertTrue(os.path.exists(file))

@@ -11,9 +11,8 @@ import ipaddress
 import os
 import random
 
-from support import PROGRAM, ROOT, Case, command, read, rows, stand_in, texts, write
+from support import PROGRAM, ROOT, Case, inside, read, rows, stand_in, texts, write
 
-COUNTRY, LOOKUP = command("country"), command("lookup")
 HEAD = "map-name countries\nmode ipv6\ndefault unknown\n"
 BLOCKS_TITLE = "network,geoname_id,registered_country_geoname_id,represented_country_geoname_id,is_anonymous_proxy\n"
 FILES = {
@@ -151,7 +150,7 @@ class Sources(Case):
 
     def country(self, *words):
         """Runs the command."""
-        return texts(COUNTRY, *words, variables=self.path)
+        return inside.texts("country", *words, variables=self.path)
 
 
 class Maps(Sources):
@@ -265,11 +264,11 @@ class SameAsSource(Case):
     @rows(*zip(("libloc", "GeoLite2", "dbip-country.csv", "dbip-city.csv", "ip2location6.csv ip2location.csv",
                 "ipinfo.csv")))
     def test_source(self, sources):
-        status, _, error = texts(COUNTRY, "map.txt", *sources.split(), variables=self.path)
+        status, _, error = inside.texts("country", "map.txt", *sources.split(), variables=self.path)
         self.assertEqual((status, error), (0, ""))
         addresses, wanted = labelled()
-        found = texts(LOOKUP, "--pmap", "map.txt",
-                      input="".join(f"{place}\n" for place in addresses))[1].split("\n")[:-1]
+        found = inside.texts("lookup", "--pmap", "map.txt",
+                             input="".join(f"{place}\n" for place in addresses))[1].split("\n")[:-1]
         self.assertEqual((len(addresses), len(found)), (1000, 1000))
         self.assertEqual([(place, label, right) for place, label, right in zip(addresses, found, wanted)
                           if label != right], [])
@@ -281,7 +280,7 @@ class Labels(Sources):
     @classmethod
     def prepare(cls):
         super().prepare()
-        texts(COUNTRY, "map.txt", "geoip", "geoip6")
+        inside.texts("country", "map.txt", "geoip", "geoip6")
         for name, words in (("list.txt", ()), ("cert.txt", ("--certificate",))):
             write(name, texts(PROGRAM, "shrink", "--pmap", "map.txt", *words)[1])
 
@@ -309,12 +308,13 @@ class Lookups(Case):
         places = [str(ipaddress.IPv6Address(value)) for value in sorted(values) if 0 <= value < 1 << 128]
         places += ["10.1.20.1", "10.1.20.0", "010.1.020.001", "::ffff:010.1.20.1", "0.0.0.0", "255.255.255.255", "1::"]
         wanted = "".join(texts(PROGRAM, "label", option, name, place)[1] for place in places)
-        self.assertEqual(texts(LOOKUP, option, name, input="".join(f"{place}\n" for place in places)), (0, wanted, ""))
+        self.assertEqual(inside.texts("lookup", option, name, input="".join(f"{place}\n" for place in places)),
+                         (0, wanted, ""))
 
     @rows(*zip(("0010.1.1.1", "10.1.1", "10.1.1.256", "1.2.3.4/32", "0x10.1.1.1", "1::2::3", "12345::", "",
                 "10.1.1.1.")))
     def test_no_address(self, place):
         words = "--pmap", ROOT / "examples/regions.txt"
         self.assertEqual(texts(PROGRAM, "label", *words, place)[0], 2)
-        self.assertEqual(texts(LOOKUP, *words, input=f"10.0.0.1\n{place}\n"),
+        self.assertEqual(inside.texts("lookup", *words, input=f"10.0.0.1\n{place}\n"),
                          (1, "", "flowlabel-lookup: standard input: no address at 2\n"))

@@ -8,7 +8,7 @@ cells must come out as they are, or be refused with the number of their line.
 import ipaddress
 import random
 
-from support import Case, command, outcome, rows, texts, write
+from support import Case, inside, rows, write
 
 HEAD = "network,label\n"
 # The options, the table, and for some addresses the label, or None for a label of no line.
@@ -80,6 +80,9 @@ FAULTS = (
     ("--network 1 --network 2 --label 3", "10.0.0.5,255.255.255.255,A\n",
      "line 1: 10.0.0.5 255.255.255.255: the second"),
     ("", HEAD + "10.0.0.9-10.0.0.5,A\n", "line 2: 10.0.0.9-10.0.0.5: the first address is above"),
+    # A range in the first of two columns, whose second would say something else.
+    ("--network 1 --network 2 --label 3", "10.0.0.0-10.0.0.5,10.0.0.9,A\n",
+     "line 1: '10.0.0.0-10.0.0.5 10.0.0.9' is no block, address or range"),
     ("", HEAD + "10.0.0.9-::1,A\n", "line 2: 10.0.0.9-::1: the first address is above the last, or of another"),
     ("", HEAD + "10.0.0.0/8,A#1\n", "line 2: a # in the label"),
     ("", HEAD + "10.0.0.0/8,\n", "line 2: a label of 0 bytes"),
@@ -131,14 +134,14 @@ class Tables(Case):
     def run_over(self, options, table):
         """Returns the status of the command over a table, its output and its errors."""
         write("table.csv", table)
-        status, output, error = outcome(command("customers"), *options.split(), "table.csv")
+        status, output, error = inside.outcome("customers", *options.split(), "table.csv")
         return status, output, error.decode()
 
     def labels_of(self, text, addresses):
         """Returns the labels that flowlabel gives addresses under a map text."""
         write("map.txt", text)
-        status, found, error = texts(command("lookup"), "--pmap", "map.txt",
-                                     input="".join(f"{one}\n" for one in addresses))
+        status, found, error = inside.texts("lookup", "--pmap", "map.txt",
+                                            input="".join(f"{one}\n" for one in addresses))
         self.assertEqual((status, error), (0, ""))
         return found.split("\n")[:-1]
 
@@ -194,8 +197,8 @@ class Faults(Tables):
         self.assertEqual(self.run_over(options, HEAD)[:2], (2, b""))
 
     def test_a_full_disk(self):
-        write("full.csv", HEAD + "10.0.0.0/8,A\n")
-        status, _, error = texts("sh", "-c", '"$0" - <full.csv >/dev/full', command("customers"))
+        with open("/dev/full", "wb") as full:
+            status, _, error = inside.texts("customers", "-", input=HEAD + "10.0.0.0/8,A\n", stdout=full)
         self.assertEqual((status, error.splitlines()[-1]), (4, "flowlabel-customers: output: No space left on device"))
 
 

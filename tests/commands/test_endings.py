@@ -3,11 +3,11 @@
 Each command must work with spaces and line feeds in the names of files and folders. If its output is a closed pipe, it
 must end without a word, or with flowlabel's line. If the disk of its output is full, or a program or a file that it
 needs is missing, it must end with one line that says so, and the status that the manual page has for this. A signal
-must end it without a traceback, and leave no file that wasn't there. `--help` must print the first lines of each
-command, also if it is called by a link.
+must end it without a traceback, and leave no file that wasn't there. `--help` must describe each command, and each of
+its options.
 """
 
-import ast
+import argparse
 import contextlib
 import os
 import resource
@@ -16,7 +16,7 @@ import signal
 import subprocess
 import sys
 
-from support import PROGRAM, ROOT, Case, closed_pipe, command, processes, read, rows, run, stand_in, texts, write
+from support import PROGRAM, ROOT, Case, closed_pipe, command, inside, processes, rows, run, stand_in, texts, write
 from support import write_program
 
 SAMPLE = ROOT / "examples/softflowd.ipfix"
@@ -60,13 +60,12 @@ MISSING = (
     ("bill {}.none --fields sip", "flowlabel-bill: {}.none: No such file or directory"),
     ("packets 4 none/{}", "packets: none/{}: No such file or directory"),
 )
-# Words without a program on the path, the names of the programs that are there, and the line.
+# Words without a program on the path, the names of programs that are there, and the line.
 NO_TOOL = (
     ("country {}.new libloc", "", "flowlabel-country: there is no location (Debian: location, libloc-database)"),
-    ("capture {}.pcap {}.file", "readlink dirname",
-     "flowlabel-capture: {}.pcap: there is no softflowd to read it (Debian: softflowd)"),
+    ("capture {}.pcap {}.file", "", "flowlabel-capture: {}.pcap: there is no softflowd to read it (Debian: softflowd)"),
     ("nfcapd {}.none", "", "flowlabel-nfcapd: there is no nfdump (Debian: nfdump)"),
-    ("bill --parallel {}.d --fields sip", "readlink dirname", "flowlabel-bill: there is no parallel (Debian: parallel)"),
+    ("bill --parallel {}.d --fields sip", "", "flowlabel-bill: there is no parallel (Debian: parallel)"),
     ("table --load linux {}.list {}.folder", "", "flowlabel-table: there is no ip (Debian: iproute2)"),
 )
 # Scripts that run flowlabel.
@@ -98,22 +97,34 @@ class Commands(Case):
         os.mkfifo(f"{ODD}.fifo")
         cls.variables = {**stand_in("softflowd", STAND_IN), "SENDS": os.fspath(SAMPLE), "PROGRAM": PROGRAM}
 
-    def end(self, line, variables=(), **options):
-        """Runs a command, and returns its status, its output and its errors."""
+    def end(self, line, variables=()):
+        """Runs a command in this process, and returns its status, its output and its errors."""
+        name, *words = line.split()
+        if name == "packets":
+            return self.process(line)
+        return inside.texts(name, *(word.replace("{}", ODD) for word in words), input="10.0.0.1\n",
+                            variables={**self.variables, **dict(variables)})
+
+    def process(self, line, variables=(), **options):
+        """Runs a command in a process of its own, and returns its status, its output and its errors."""
         return texts(*words_of(line), input="10.0.0.1\n", variables={**self.variables, **dict(variables)}, **options)
 
 
 class Help(Case):
     """The page of each command, by --help."""
 
-    @rows(*((path.name,) for path in sorted((ROOT / "bin").glob("flowlabel-*")) if path.name != "flowlabel-many"))
+    @rows(*((path.name.removeprefix("flowlabel-"),) for path in sorted((ROOT / "bin").glob("flowlabel-*"))
+            if path.name != "flowlabel-many"))
     def test_help(self, name):
-        page = ast.get_docstring(ast.parse(read(ROOT / "bin" / name)), clean=False).strip()
-        self.assertRegex(page, rf"(?m)(\A.*: |^    ){name}\b")
-        os.symlink(ROOT / "bin" / name, name)
-        for place in (ROOT / "bin" / name, f"./{name}"):
-            status, output, error = texts(place, "--help", variables={"FLOWLABEL": "/none"})
-            self.assertEqual((status, output.strip(), error), (0, page, ""), place)
+        """It begins with the calls, has the first lines of the module, and says something of each option."""
+        module = inside.module(f"commands.{name}")
+        status, output, error = inside.texts(name, "--help", variables={"FLOWLABEL": "/none", "COLUMNS": "40"})
+        self.assertEqual((status, error), (0, ""))
+        self.assertRegex(output, rf"\Ausage: flowlabel-{name}\b")
+        self.assertIn(f"\n\n{module.__doc__.strip()}\n\n", output)
+        self.assertEqual([action.dest for action in module.PARSER._actions if not action.help], [])
+        self.assertEqual([option for action in module.PARSER._actions for option in action.option_strings
+                          if option not in output and action.help != argparse.SUPPRESS], [])
 
 
 class OddNames(Commands):
@@ -130,7 +141,7 @@ class OddNames(Commands):
         # flowlabel has a line of its own.
         status = 0 if not count else {"verify": 4}.get(name, -signal.SIGPIPE)
         with closed_pipe() as pipe:
-            self.assertEqual(self.end(line, stdout=pipe)[::2],
+            self.assertEqual(self.process(line, stdout=pipe)[::2],
                              (status, "flowlabel: output: cannot write\n" if name == "verify" else ""))
 
     @rows(*(row for row in WORKS if row[1]))
@@ -138,14 +149,14 @@ class OddNames(Commands):
         name = line.split()[0]
         error = f"flowlabel-{name}: output: No space left on device\n"
         with open("/dev/full", "wb") as full:
-            self.assertEqual(self.end(line, stdout=full)[::2],
+            self.assertEqual(self.process(line, stdout=full)[::2],
                              (4, "flowlabel: output: cannot write\n" if name == "verify" else error))
 
     @rows(("country {}.empty {}.csv",), ("table tsv {}.list {}.empty",), ("packets 4 {}.empty",))
     def test_no_room(self, line):
         # A limit of the size of files imitates a disk without room.
         before = set(os.listdir("."))
-        status, output, error = self.end(line, preexec_fn=lambda: resource.setrlimit(resource.RLIMIT_FSIZE, (0, 0)))
+        status, output, error = self.process(line, preexec_fn=lambda: resource.setrlimit(resource.RLIMIT_FSIZE, (0, 0)))
         self.assertEqual((status, output, error.count("\n")), (4, "", 1))
         self.assertIn("File too large", error)
         self.assertEqual(set(os.listdir(".")), before)
@@ -172,7 +183,7 @@ class Missing(Commands):
     @rows(*zip(RUN_FLOWLABEL))
     def test_flowlabel(self, line):
         self.assertEqual(self.end(line, {"FLOWLABEL": "/none/flowlabel"}),
-                         (125, "", "lib/flowlabel/program: FLOWLABEL names no program: /none/flowlabel\n"))
+                         (125, "", f"flowlabel-{line.split()[0]}: FLOWLABEL names no program: /none/flowlabel\n"))
 
 
 class Signals(Commands):

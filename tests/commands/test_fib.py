@@ -17,9 +17,8 @@ import re
 import signal
 import struct
 import subprocess
-import sys
 
-from support import PROGRAM, ROOT, Case, closed_pipe, command, needs, read, rows, run, texts, write
+from support import PROGRAM, ROOT, Case, closed_pipe, command, inside, needs, read, rows, run, texts, write
 from support.changes import PIPES, failing, output, stands_in, waiting
 from support.namespaces import Isolated
 from support.processes import is_asleep, wait, wait_for
@@ -307,7 +306,7 @@ def lock():
 
 def fib(words, given="", **variables):
     """Runs the command, and returns its status, its output and its messages."""
-    return texts(FIB, *words.split(), input=given, variables=variables)
+    return inside.texts("fib", *words.split(), input=given, variables=variables)
 
 
 def ip(lines, version=4):
@@ -363,7 +362,13 @@ class Texts(Fib):
 
     def test_help(self):
         status, found, said = fib("--help")
-        self.assertEqual((status, found.partition(" of")[0], said), (0, "Makes a map", ""))
+        self.assertEqual((status, found.partition(" linux")[0], said), (0, "usage: flowlabel-fib [-6]", ""))
+        # Each form and each option, the latter with help.
+        for form in ("[-6] linux [FILE]", "[-6] [--peer ADDRESS] mrt [FILE]", "--load TABLE [LIST]",
+                     "[-6] --check TABLE"):
+            self.assertIn(f" flowlabel-fib {form}\n", found)
+        for option in ("--load", "--check", "-6", "--peer ADDRESS"):
+            self.assertRegex(found, rf"(?m)^  {option} +\w")
 
 
 class Surroundings(Fib):
@@ -376,7 +381,7 @@ class Surroundings(Fib):
 
     @rows((name, 0), ("missing\nfile", 4), (".", 4))
     def test_name(self, name, status):
-        ended, found, said = texts(FIB, "linux", name)
+        ended, found, said = inside.texts("fib", "linux", name)
         self.assertEqual((ended, found, said.count("\n")), (status, "" if status else MAP, 1))
 
     def test_output(self):
@@ -389,7 +394,7 @@ class Surroundings(Fib):
             self.assertEqual((process.communicate()[1], process.returncode), ("", -signal.SIGINT))
 
     def test_no_ip(self):
-        found = texts(sys.executable, FIB, "--load", "100", input=LIST, variables={"PATH": "/nowhere"})
+        found = fib("--load 100", LIST, PATH="/nowhere")
         self.assertEqual(found, (1, "", "flowlabel-fib: there is no ip (Debian: iproute2)\n"))
 
 
@@ -477,8 +482,8 @@ class Lists(Routed):
         output("sysctl", "-qw", "net.ipv4.nexthop_compat_mode=1")
         cls.list, cls.tried, cls.hops, cls.before = {}, {}, {}, {}
         for version, option in OPTIONS.items():
-            write(f"map{version}.txt", output(FIB, *option.split(), "linux",
-                                              given=ip("-json route", version) + output("ip", "-json", "nexthop")))
+            write(f"map{version}.txt", fib(f"{option}linux", ip("-json route", version)
+                                           + output("ip", "-json", "nexthop"))[1])
             cls.list[version] = output(PROGRAM, "shrink", "--pmap", f"map{version}.txt")
             write(f"list{version}.txt", cls.list[version])
             cls.tried[version] = [f"{address} fibmatch" for address in
@@ -503,7 +508,9 @@ class Lists(Routed):
     @staticmethod
     def use(version):
         """Loads the table 100, and takes it into use. Returns the printed commands."""
-        found = output(FIB, "--load", "100", f"list{version}.txt")
+        _, found, said = fib(f"--load 100 list{version}.txt")
+        if said:
+            raise OSError(said)
         commands = dict(line.split(": ", 1) for line in found.splitlines()[1:])
         output("sh", "-c", commands["use"])
         return commands

@@ -11,13 +11,10 @@ import codecs
 import gzip
 import os
 import random
-import resource
 import unittest
 
-from support import PROGRAM, ROOT, Case, command, not_in_ci, outcome, read, read_bytes, rows, run, texts, write, \
-    write_program
+from support import PROGRAM, ROOT, Case, inside, not_in_ci, outcome, read, read_bytes, rows, run, write, write_program
 
-LINT, LOOKUP = command("lint"), command("lookup")
 # Maps, with the warnings: the number of a line, and a part of what is printed of it.
 WARNED = (
     # A range whose second address is a netmask, with the block that was meant.
@@ -205,7 +202,7 @@ class Lint(Case):
 
     def lint(self, *words, **variables):
         """Runs the command, and returns its status and its two outputs."""
-        return texts(LINT, *words, variables=variables)
+        return inside.texts("lint", *words, variables=variables)
 
     def warnings(self, *words):
         """Returns the warnings of a text that is accepted."""
@@ -309,7 +306,7 @@ class Lines(Lint):
         self.assertEqual(self.lint("missing.txt"), (4, "", "flowlabel-lint: missing.txt: No such file or directory\n"))
 
     def test_a_pipe(self):
-        found = texts(LINT, "/dev/stdin", input="10.0.0.0/8 A\n10.0.0.0/8 B\n")[1]
+        found = inside.texts("lint", "/dev/stdin", input="10.0.0.0/8 A\n10.0.0.0/8 B\n")[1]
         self.assertEqual(found.split("\n")[0], "line 1 never counts: 10.0.0.0/8 A")
 
 
@@ -325,7 +322,7 @@ class LookedUp(Case):
           ("a zero byte", b"1\0\n", (1, b"", b"flowlabel-lookup: standard input: no address at 1\n")))
     def test_lines(self, _, text, wanted):
         write("map.txt", "10.0.0.0/8 A\n10.1.0.0/16 B\n")
-        self.assertEqual(outcome(LOOKUP, "--pmap", "map.txt", input=text), wanted)
+        self.assertEqual(inside.outcome("lookup", "--pmap", "map.txt", input=text), wanted)
 
 
 class Binaries(Lint):
@@ -392,9 +389,10 @@ class Speed(Lint):
     def spent(self, count):
         """Returns the CPU seconds of a map of so many lines."""
         write("map.txt", large_map(count))
-        before = resource.getrusage(resource.RUSAGE_CHILDREN)
+        before = os.times()
         self.lint("map.txt")
-        return resource.getrusage(resource.RUSAGE_CHILDREN).ru_utime - before.ru_utime
+        after = os.times()
+        return after.user + after.children_user - before.user - before.children_user
 
     def test_lines(self):
         few = self.spent(LARGE // 10)

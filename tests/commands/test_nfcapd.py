@@ -17,9 +17,10 @@ import shutil
 import signal
 import struct
 import subprocess
+from unittest import mock
 
-from support import PROGRAM, ROOT, Case, closed_pipe, command, exporters, needs, outcome, processes, rows, run
-from support import read, read_bytes, stand_in, texts, write, write_program
+from support import PROGRAM, ROOT, Case, closed_pipe, command, exporters, inside, needs, outcome, processes, rows, run
+from support import read_bytes, stand_in, texts, write
 from support.ipfix import message, sets, template
 
 SCRIPT = command("nfcapd")
@@ -34,7 +35,7 @@ TEMPLATE = template(256, (8, 4), (12, 4), (7, 2), (11, 2), (4, 1), (6, 1), (2, 8
 
 def convert(*names, **variables):
     """Runs flowlabel-nfcapd, and returns its status, its output and its lines on standard error."""
-    status, output, error = outcome(SCRIPT, *names, variables=variables)
+    status, output, error = inside.outcome("nfcapd", *names, variables=variables)
     return status, output, error.decode().splitlines()
 
 
@@ -149,7 +150,7 @@ class Protocols(Collected):
         self.assertGreater(len(found), 400)
         self.assertEqual(len(reverse) > 150, name == "both")
         # The File lacks nothing, but softflowd doesn't count as nfcapd expects.
-        status, output, error = texts(command("audit"), write("made", output))
+        status, output, error = inside.texts("audit", write("made", output))
         self.assertEqual((status, error, len(errors)), (0, "", int(name != "pmacctd")))
         self.assertIn(f", missing {'unknown' if errors else 0}, ", output)
 
@@ -298,7 +299,7 @@ class Lost(Collected):
 
     def missing(self, data):
         """Returns the status of flowlabel-audit and the number of missing records that it prints."""
-        status, output, _ = texts(command("audit"), write("made.ipfix", data))
+        status, output, _ = inside.texts("audit", write("made.ipfix", data))
         return status, re.search(", missing (.*), records", output)[1]
 
     def test_unknown(self):
@@ -314,7 +315,7 @@ class Lost(Collected):
         """A file that is in two Files is found, though the numbers of its messages differ."""
         for name, its in (("one", (self.name, self.lost)), ("two", (self.name,))):
             write(f"month/{name}.ipfix", convert(*its)[1])
-        status, output, error = texts(command("bill"), "--by", "day", "month")
+        status, output, error = inside.texts("bill", "--by", "day", "month")
         self.assertEqual((status, output, error.count(" messages are in month/one.ipfix too, ")), (1, "", 1), error)
 
     def test_beside_others(self):
@@ -385,13 +386,9 @@ class StandIn(Collected):
     @rows(("totals", "exec sleep 3600", "no file that nfcapd has finished"),
           ("flows", 'case " $* " in *" -I "*) exec "$NFDUMP" "$@" ;; esac; exec sleep 3600', "cut short"))
     def test_one_that_waits_for_ever(self, _, line, part):
-        # A copy of the command that waits for less time.
-        script = write_program(f"patient/{self.id()}/bin/flowlabel-nfcapd",
-                               read(SCRIPT).replace("PATIENCE = 600", "PATIENCE = 1"))
-        os.symlink(ROOT / "lib", f"{os.path.dirname(os.path.dirname(script))}/lib")
-        status, output, error = outcome(script, self.name, variables={
-            "NFDUMP": shutil.which("nfdump"), **stand_in("nfdump", f"#!/bin/sh\n{line}\n")})
-        self.assert_refused((status, output, error.decode().splitlines()), part)
+        with mock.patch.object(inside.module("commands.nfcapd"), "PATIENCE", 1):
+            self.assert_refused(convert(self.name, NFDUMP=shutil.which("nfdump"),
+                                        **stand_in("nfdump", f"#!/bin/sh\n{line}\n")), part)
 
     def test_a_sampled_flow_and_events(self):
         status, output, error = self.changed(self.name,
@@ -443,5 +440,6 @@ class Ends(Collected):
         self.assertIn(b"no IPFIX File", output)
 
     def test_help(self):
-        status, output, error = texts(SCRIPT, "--help")
-        self.assertEqual((status, error, output[:20]), (0, "", "Prints an IPFIX File"))
+        status, output, error = inside.texts("nfcapd", "--help")
+        self.assertEqual((status, error, output[:23]), (0, "", "usage: flowlabel-nfcapd"))
+        self.assertNotIn("no IPFIX File\n", output)

@@ -8,7 +8,7 @@ height of its bytes, in whichever column these are. An empty table must give a p
 import os
 import xml.etree.ElementTree
 
-from support import PROGRAM, ROOT, Case, command, needs, outcome, rows, texts, write
+from support import MANY, ROOT, Case, needs, rows, run, texts, write
 
 SCRIPT = ROOT / "lib/flowlabel/bill.gnuplot"
 LABELS = ("Alder", "a_b^2", "{/Bold x} @q", 'say "hi"', '"quoted"', '5" pipe', "it's", "back\\nslash\\\\",
@@ -81,8 +81,6 @@ class Pictures(Case):
         self.assertEqual(len(heights), 2)
         self.assertAlmostEqual(heights[0], 2 * heights[1], delta=1)
 
-    def test_report(self):
-        table = outcome(PROGRAM, "rows", ROOT / "examples/softflowd-milli.ipfix")[1]
-        status, table, _ = outcome(command("report"), "--by", "minute", input=table)
-        self.assertEqual(status, 0)
+    def test_sums_by_minute(self):
+        table = run(MANY, "sum", "--by", "minute", ROOT / "examples/softflowd-milli.ipfix", check=True).stdout
         self.assertEqual(len(self.draw("minutes", table)[1]), table.count(b"\n") - 1)

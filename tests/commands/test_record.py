@@ -13,14 +13,15 @@ import signal
 import socket
 import struct
 import subprocess
+import sys
 import time
 
-from support import PROGRAM, ROOT, Case, closed_pipe, command, exporters, needs, read, read_bytes, rows, run, texts, \
-    write
+from support import PROGRAM, ROOT, Case, closed_pipe, command, exporters, inside, needs, read, read_bytes, rows, run
+from support import write
 from support.ipfix import FOUR, SUMS, message, sets, template
 from support.processes import PATIENCE, wait
 
-RECORD, AUDIT = command("record"), command("audit")
+RECORD = command("record")
 TEMPLATE = template(256, *FOUR, *SUMS)
 FLOW = sets(256, bytes.fromhex("0a000001 08080808 00000003 000000b4"))
 BEGIN = message(TEMPLATE, FLOW)
@@ -117,7 +118,7 @@ class Files(Recorded):
         begins = [flow(number, TEMPLATE, other, template(301, *FOUR)) in text for number in range(17)]
         self.assertTrue(any(begins), text)
         # 10 records were lost between two Files.
-        status, output, _ = texts(AUDIT, write("joined", read_bytes(first) + text))
+        status, output, _ = inside.texts("audit", write("joined", read_bytes(first) + text))
         self.assertEqual(status, 1)
         self.assertIn("10 records of the domain 1 are missing: 10 before the message ", output)
 
@@ -186,7 +187,7 @@ class Files(Recorded):
             run(*exporters.softflowd("-v", "10", "-A", "milli")(process.port), check=True)
             status, names, error = self.end(process)
         self.assertEqual((status, error, self.counts(*names)["records"]), (0, [], 1000))
-        self.assertEqual(texts(AUDIT, *names)[0], 0)
+        self.assertEqual(inside.texts("audit", *names)[0], 0)
 
 
 class Faults(Recorded):
@@ -228,9 +229,10 @@ class Faults(Recorded):
 
     def test_no_links(self):
         # The call link doesn't exist for this run, as on some file systems.
-        write("hook/sitecustomize.py", "import os\ndef link(*_):\n    os.mkdir('hook/called')\n"
-              "    raise PermissionError(1, 'none')\nos.link = link\n")
-        with self.recorder(folder="unlinked", before=("env", "PYTHONPATH=hook")) as (process, sender):
+        write("hook/start.py", "import os, runpy, sys\ndef link(*_):\n    os.mkdir('hook/called')\n"
+              "    raise PermissionError(1, 'none')\nos.link = link\nsys.argv = sys.argv[1:]\n"
+              "runpy.run_path(sys.argv[0], run_name='__main__')\n")
+        with self.recorder(folder="unlinked", before=(sys.executable, "hook/start.py")) as (process, sender):
             sender.send(BEGIN)
             status, names, error = self.end(process)
         self.assertEqual((status, os.listdir("unlinked"), error), (0, [os.path.basename(names[0])], []))
@@ -265,10 +267,10 @@ class Faults(Recorded):
     @rows(("127.0.0.1 70000 .",), ("localhost 4739 .",), ("--every 0 ::1 4739 .",), ("--from x ::1 4739 .",),
           ("::1 4739",))
     def test_usage(self, words):
-        status, output, error = texts(RECORD, *words.split())
+        status, output, error = inside.texts("record", *words.split())
         self.assertEqual((status, output, error.count("\n")), (2, "", 1))
 
     @rows(("127.0.0.1 0 missing", "missing: no folder", 1), ("192.0.2.1 0 .", "Cannot assign requested address", 4))
     def test_refused(self, words, why, wanted):
-        status, output, error = texts(RECORD, *words.split())
+        status, output, error = inside.texts("record", *words.split())
         self.assertEqual((status, output, error), (wanted, "", f"flowlabel-record: {why}\n"))

@@ -4,9 +4,12 @@ Sums must equal those of `uniq`. A table of a command that fails, or is killed, 
 1,000,000 rows must take at most four times the CPU time of `cut` and a sum of mawk.
 """
 
+import collections
 import csv
+import decimal
 import io
 import json
+import operator
 import os
 import re
 import resource
@@ -16,11 +19,11 @@ import subprocess
 import sys
 import unittest
 
-from support import PROGRAM, ROOT, Case, closed_pipe, command, made, not_in_ci, outcome, processes, rows, run
-from support import read_bytes, texts, write, write_program
+from support import MANY, PROGRAM, ROOT, Case, closed_pipe, command, inside, made, not_in_ci, outcome, processes
+from support import read_bytes, rows, run, write, write_program
 
 REPORT = command("report")
-MAP = ROOT / "examples/customers.txt"
+MAP, TIMED = ROOT / "examples/customers.txt", ROOT / "examples/softflowd-milli.ipfix"
 ROWS = b"sip|dip|sport|dport|proto|flags|packets|bytes|stime|etime|src-label|dst-label\n"
 # 2023-11-14T22:13:59.999Z, the next millisecond, the next day, an unknown time, and a time after the year 9999.
 FIVE = ROWS + b"""10.0.0.1|10.0.0.2|1|2|6|2|1|18446744073709551615|1700000039999|1700000040000|A|B
@@ -31,24 +34,20 @@ FIVE = ROWS + b"""10.0.0.1|10.0.0.2|1|2|6|2|1|18446744073709551615|1700000039999
 """
 ODD = (b'src-label|records|packets|bytes\nsaid "no", twice|1|2|3\n\xff\xfe,|4|5|6\nNA|7|8|9\na|b|10|11|12\n'
        b'5" pipe|13|14|15\n')
-# An unknown time, the first millisecond after 1970 began, and its last one of that minute, hour and day.
-EARLY = ROWS + b"".join(b"10.0.0.1|::2|0|0|6|0|1|%d|%d|0|A|B\n" % pair for pair in (
-    (1, 0), (2, 1), (4, 59999), (8, 60000), (16, 3599999), (32, 3600000), (64, 86399999), (128, 86400000)))
 DAYS = (b"day|dst-label|records|packets|bytes\n10000-01-01|A|1|2|3\n2023-11-15|B|1|2|4\n2023-11-15|A|1|2|5\n0|A|1|2|6\n"
         b"1970-01-01|A|1|2|7\n2023-11-15|A|1|2|8\n")
+# An unknown time, an hour of UTC and two of a time zone, in the order of time.
+HOURS = b"""hour|src-label|dst-label|records|packets|bytes
+0|A|B|1|1|450
+2026-10-25T02+02:00|A|B|1|9|900
+2026-10-25T02+01:00|A|B|2|18|1800
+2026-10-25T02+01:00|B|A|4|36|3600
+"""
+MINUTES = b"minute|records|packets|bytes\n2023-11-14T22:13Z|1|2|3\n"
 PAIRS = b"src-label|dst-label|records|packets|bytes\nA|B|1|10|700\nB|A|2|20|200\nA|C|3|30|100\nC|C|4|40|1\n"
 BIG = b"dip|records|packets|bytes\n10.0.0.10|1|1|340282366920938463463374607431768211456\n9.0.0.1|2|2|1\n"
 # The options, the input and the output.
 TABLES = (
-    ("--by minute", FIVE, b"minute|records|packets|bytes\n0|1|4294967295|1\n"
-     b"2023-11-14T22:13Z|1|1|18446744073709551615\n2023-11-14T22:14Z|1|2|18446744073709551615\n"
-     b"2023-11-15T22:14Z|1|4294967295|3\n10000-01-01T00:00Z|1|1|0\n"),
-    ("--by hour --fields proto", FIVE, b"hour|proto|records|packets|bytes\n0|6|1|4294967295|1\n"
-     b"2023-11-14T22Z|6|1|1|18446744073709551615\n2023-11-14T22Z|17|1|2|18446744073709551615\n"
-     b"2023-11-15T22Z|6|1|4294967295|3\n10000-01-01T00Z|6|1|1|0\n"),
-    ("--by day --label A,B --side src --rates", FIVE, b"day|records|packets|bytes|bits/s|packets/s\n"
-     b"0|1|4294967295|1|0.00|49710.27\n2023-11-14|2|3|36893488147419103230|3416063717353620.67|0.00\n"
-     b"2023-11-15|1|4294967295|3|0.00|49710.27\n"),
     ("--fields sip,proto", FIVE, b"sip|proto|records|packets|bytes\n9.0.0.1|6|2|8589934590|4\n"
      b"10.0.0.1|6|1|1|18446744073709551615\n10.0.0.1|17|1|2|18446744073709551615\n::1|6|1|1|0\n"),
     ("--both", FIVE, b"label|in-records|in-packets|in-bytes|out-records|out-packets|out-bytes\n"
@@ -79,21 +78,28 @@ TABLES = (
      b"10.0.0.10|1|1|340282366920938463463374607431768211456|100.00\n"),
     ("", BIG + BIG.split(b"\n", 1)[1], b"dip|records|packets|bytes\n9.0.0.1|4|4|2\n"
      b"10.0.0.10|2|2|680564733841876926926749214863536422912\n"),
-    ("--by minute", ROWS, b"minute|records|packets|bytes\n"),
+    ("--fields proto", ROWS, b"proto|records|packets|bytes\n"),
     ("--top 3 --csv", b"dip|records|packets|bytes\n", b"dip,records,packets,bytes,percent\r\n"),
     ("--json", b"dip|records|packets|bytes\n", b""),
     ("--share", b"dip|records|packets|bytes\n::|1|0|0\n", b"dip|records|packets|bytes|percent\n::|1|0|0|0.00\n"),
-    ("--by minute", EARLY, b"minute|records|packets|bytes\n0|1|1|1\n1970-01-01T00:00Z|2|2|6\n1970-01-01T00:01Z|1|1|8\n"
-     b"1970-01-01T00:59Z|1|1|16\n1970-01-01T01:00Z|1|1|32\n1970-01-01T23:59Z|1|1|64\n1970-01-02T00:00Z|1|1|128\n"),
-    ("--by hour", EARLY, b"hour|records|packets|bytes\n0|1|1|1\n1970-01-01T00Z|4|4|30\n1970-01-01T01Z|1|1|32\n"
-     b"1970-01-01T23Z|1|1|64\n1970-01-02T00Z|1|1|128\n"),
-    ("--by day", EARLY, b"day|records|packets|bytes\n0|1|1|1\n1970-01-01|6|6|126\n1970-01-02|1|1|128\n"),
     ("", DAYS, b"day|dst-label|records|packets|bytes\n0|A|1|2|6\n1970-01-01|A|1|2|7\n2023-11-15|A|2|4|13\n"
      b"2023-11-15|B|1|2|4\n10000-01-01|A|1|2|3\n"),
     ("--fields day --except B --side dst --csv", DAYS, b"day,records,packets,bytes\r\n0,1,2,6\r\n1970-01-01,1,2,7\r\n"
      b"2023-11-15,2,4,13\r\n10000-01-01,1,2,3\r\n"),
     ("--json --label B --side dst", DAYS,
      b'{"day": "2023-11-15", "dst-label": "B", "records": 1, "packets": 2, "bytes": 4}\n'),
+    # Each time has its own lines of labels.
+    ("--both", HOURS, b"hour|label|in-records|in-packets|in-bytes|out-records|out-packets|out-bytes\n"
+     b"0|A|0|0|0|1|1|450\n0|B|1|1|450|0|0|0\n2026-10-25T02+02:00|A|0|0|0|1|9|900\n2026-10-25T02+02:00|B|1|9|900|0|0|0\n"
+     b"2026-10-25T02+01:00|A|4|36|3600|2|18|1800\n2026-10-25T02+01:00|B|2|18|1800|4|36|3600\n"),
+    ("--both --label A --top 1 --seconds 900", HOURS, b"hour|label|in-records|in-packets|in-bytes|out-records|"
+     b"out-packets|out-bytes|percent|in-bits/s|in-packets/s|out-bits/s|out-packets/s\n"
+     b"2026-10-25T02+01:00|A|4|36|3600|2|18|1800|80.00|32.00|0.04|16.00|0.02\n"),
+    ("--rates --fields hour", HOURS, b"hour|records|packets|bytes|bits/s|packets/s\n0|1|1|450|1.00|0.00\n"
+     b"2026-10-25T02+02:00|1|9|900|2.00|0.00\n2026-10-25T02+01:00|6|54|5400|12.00|0.02\n"),
+    ("--rates --label A --side dst", DAYS.replace(b"|A|1|2|7", b"|A|1|4320|54000"),
+     b"day|dst-label|records|packets|bytes|bits/s|packets/s\n0|A|1|2|6|0.00|0.00\n1970-01-01|A|1|4320|54000|5.00|0.05\n"
+     b"2023-11-15|A|2|4|13|0.00|0.00\n10000-01-01|A|1|2|3|0.00|0.00\n"),
     ("--json --strings --top 1", BIG, b'{"dip": "10.0.0.10", "records": "1", "packets": "1", '
      b'"bytes": "340282366920938463463374607431768211456", "percent": "100.00"}\n'),
 )
@@ -114,18 +120,23 @@ FAULTS = (
     ("", BIG + BIG.splitlines(True)[1] * 20000 + b"9.0.0.1|1|1\n", "line 20004: 3 cells"),
     ("", BIG + BIG.splitlines(True)[1] * 20000 + b"9.0.0.1|1|1|1", "line 20004: the table is cut short"),
     ("", DAYS + b"2023-11-15T00Z|A|1|2|3\n", "line 8: a cell"), ("", DAYS + b"00|A|1|2|3\n", "line 8: a cell"),
-    ("", b"dst-label|day|records|packets|bytes\n", "no header"), ("--by day", DAYS, "no times"),
+    ("", b"dst-label|day|records|packets|bytes\n", "no header"),
     ("--fields hour", DAYS, "no column hour"), ("", PAIRS + b"A|B|1\n", "line 6: 3 cells"),
     ("", PAIRS + b"A|B|C|1|1|1\n", "line 6: 6 cells instead of 5: a label has a |"),
-    ("--by hour", FIVE + FIVE.splitlines(True)[1].replace(b"1700", b"x"), "line 7: a cell"),
+    # The length of the time is unknown, or the time isn't among the columns.
+    *((f"--rates {words}", table, "--rates needs sums by a time, and of a known length: write --seconds N")
+      for words, table in (("", MINUTES), ("--fields dst-label", DAYS), ("", PAIRS), ("--both", PAIRS),
+                           ("--fields proto", FIVE), ("--both", FIVE))),
+    ("--rows", FIVE + FIVE.splitlines(True)[1].replace(b"1700", b"x"), "line 7: a cell"),
     ("--except A --side src --fields sport", FIVE + FIVE.splitlines(True)[4].replace(b"|1|10|", b"|q|10|"),
      "line 7: a cell"),
     ("--rows", FIVE + FIVE.splitlines(True)[1].replace(b"|6|", b"|x|"), "line 7: a cell"),
-    ("", FIVE, "name the groups"), ("--by day", PAIRS, "no times"), ("--fields proto", PAIRS, "no column proto"),
+    ("", FIVE, "name the groups"), ("--fields proto", PAIRS, "no column proto"),
     ("--label A", PAIRS, "two labels"), ("--label A", BIG, "no such label"), ("--both", BIG, "no column sip"),
     ("--rows", BIG, "needs a table of `rows`"),
 )
-USAGES = ("--by week", "--top x", "--top -1", "--csv --json", "--rates", "--seconds=0", "--both --fields sip", "--none",
+USAGES = ("--by day", "--by=day -- rows f", "--top x", "--top -1", "--csv --json", "--rates --seconds 1",
+          "--seconds=0", "--both --fields sip", "--none",
           "--fields bytes", "--fields sip,sip", "a b", "--rows --top 3", "--both --side src", "--strings", "--",
           "-- info f", "-- /bin/true", "a -- rows f")
 # A program that prints the first lines of a table, and then ends in another way.
@@ -135,13 +146,14 @@ echo "flowlabel: table: why" >&2
 [ "${0##*/}" != hold ] || { : >held; exec sleep 3600; }
 %s
 """
+HUNDREDTH = decimal.Decimal("0.01")
 MAWK = """cut -d '|' -f 8,12 rows.txt \
     | mawk -F '|' '{ sum[$2] += $1 } END { for (label in sum) print label, sum[label] }'"""
 
 
 def report(words, given=b"", **options):
     """Runs the command, and returns its status and its two outputs."""
-    return outcome(REPORT, *words, input=given, **options)
+    return inside.outcome("report", *words, input=given, **options)
 
 
 class SmallTables(Case):
@@ -200,7 +212,7 @@ class Labels(Case):
         self.assertEqual((status, error), (0, b"flowlabel-report: no line has the label 'no\\x09one'\n"))
 
     def test_no_utf_8(self):
-        status, output, error = report(["--except", b"\xff\xfe\\,"], ODD)
+        status, output, error = report(["--except", os.fsdecode(b"\xff\xfe\\,")], ODD)
         self.assertNotIn(b"\xff", output)
         self.assertEqual((status, error), (0, b""))
 
@@ -229,7 +241,7 @@ class OfFlowlabel(Case):
             wanted = output_of("uniq", "--fields", fields, "--sort-output", "--pmap", MAP, name)
             self.assertEqual(report(["--fields", fields], table), (0, wanted, b""), fields)
             self.assertEqual(report([], wanted), (0, wanted, b""), fields)
-        days = report(["--by", "day"], table)[1].splitlines()[1:]
+        days = report(["--", "sum", "--by", "day", name])[1].splitlines()[1:]
         protocols = report(["--fields", "proto"], table)[1].splitlines()[1:]
         self.assertEqual(totals(days), totals(protocols))
 
@@ -303,7 +315,7 @@ class Speed(Case):
         with open("rows.txt", "wb") as file:
             file.writelines([header + b"\n", *[rest] * 50])
         limit = 4 * cpu_time(["sh", "-c", MAWK])
-        for words in (["--fields", "dst-label"], ["--by", "minute"], ["--both"]):
+        for words in (["--fields", "dst-label"], ["--both"]):
             with self.subTest(words):
                 self.assertLessEqual(cpu_time([REPORT, *words, "rows.txt"]), limit)
 
@@ -318,7 +330,7 @@ class OfCommands(Case):
         write("part.ipfix", read_bytes("usual.ipfix")[:-1])
         write("table", DAYS)
 
-    @rows((["--by", "day"],), (["--both", "--csv"],), (["--rows", "--label", "elsewhere", "--side", "dst"],))
+    @rows((["--fields", "proto"],), (["--both", "--csv"],), (["--rows", "--label", "elsewhere", "--side", "dst"],))
     def test_rows(self, words):
         status, wanted, error = report(words, output_of(*self.words))
         self.assertEqual((status, error), (0, b""))
@@ -329,13 +341,53 @@ class OfCommands(Case):
                                         "usual.ipfix"])
         self.assertEqual((status, output.count(b"\n"), error), (0, 3, b""))
 
+    @rows(("day", 86400), ("hour", 3600), ("minute", 60), ("5m", 300), ("0015m", 900), ("1440m", 86400))
+    def test_rates(self, unit, seconds):
+        """The rates are over the unit of the command, in each of its forms."""
+        table = run(MANY, "sum", "--by", unit, TIMED, check=True).stdout
+        lines = [line.split("|") for line in table.decode().splitlines()[1:]]
+        found = report(["--rates", "--", "sum", "--by", unit, TIMED])[1].decode().splitlines()
+        rates = [[*map(decimal.Decimal, line.split("|")[-2:])] for line in found[1:]]
+        exact = [[8 * int(octets), int(packets)] for *_, packets, octets in lines]
+        self.assertEqual(rates, [[(decimal.Decimal(each) / seconds).quantize(HUNDREDTH, decimal.ROUND_HALF_UP)
+                                  for each in line] for line in exact])
+        self.assertEqual(report(["--rates", "--", "bill", f"--by={unit}", TIMED]),
+                         report(["--rates", "--", "sum", TIMED, f"--by={unit}"]))
+
+    def test_days_of_a_zone(self):
+        words = ["bill", "--by", "day", "--zone", "Europe/Berlin", TIMED]
+        self.assertEqual(report(["--rates", "--", *words])[:2], (1, b""))
+        self.assertEqual(report(["--", *words])[1], run(command("bill"), *words[1:], check=True).stdout)
+
+    def test_both_sides_of_a_bill(self):
+        """The times stay, and their sums are those of all times."""
+        words = ["--pmap", MAP, TIMED]
+        bill = ["--both", "--", "bill", "--fields", "src-label,dst-label"]
+        found = report([*bill, "--by", "minute", *words])[1].splitlines()
+        sums, minutes = collections.defaultdict(lambda: [0] * 6), set()
+        for minute, label, *totals in (line.split(b"|") for line in found[1:]):
+            minutes.add(minute)
+            sums[label] = [*map(operator.add, sums[label], map(int, totals))]
+        whole = report([*bill, *words])[1].splitlines()
+        self.assertEqual(len(minutes), 5)
+        self.assertEqual(found[0], b"minute|" + whole[0])
+        self.assertEqual([b"%s|" % label + b"|".join(b"%d" % total for total in sums[label]) for label in sorted(sums)],
+                         whole[1:])
+
+    def test_by(self):
+        """The line names what does it now."""
+        status, output, error = inside.texts("report", "--by", "day", "--", "rows", "usual.ipfix")
+        self.assertEqual((status, output, error), (
+            2, "", "flowlabel-report: --by is gone, since flowlabel-many sums by time: write flowlabel-report [OPTION..] "
+            "-- sum --by UNIT WORD..\n"))
+
     @rows((["rows", "part.ipfix"], 1, b"flowlabel: part.ipfix: F4 TruncatedMessage at "),
           (["rows", "none.ipfix"], 4, b"flowlabel: none.ipfix: cannot open"),
           (["rows", "--protocol", "x", "f"], 2, b"flowlabel: usage"),
           (["sum", "--fields", "sip", "none.ipfix"], 4, b"flowlabel-many: none.ipfix: cannot open"),
           (["bill", "--fields", "sip", "none"], 4, b"flowlabel-bill: none: No such file or directory\n"))
     def test_fault(self, words, status, line):
-        found = report(["--by", "day", "--", *words])
+        found = report(["--csv", "--", *words])
         self.assertEqual((*found[:2], found[2][:len(line)]), (status, b"", line))
 
     @rows(("exit 1", 1), ("exit 3", 3), ("exit 4", 4), ("kill -9 $$", 137), ("kill -13 $$", 141), ("exit 0", 0))
@@ -356,13 +408,13 @@ class OfCommands(Case):
     def test_cure(self, options, fault, cure):
         word = "uniq" if "--fields" in options else "rows"
         write("map.txt", "# A map\n\ncolour red\n")
-        found = texts(REPORT, "--", word, *options.split(), ROOT / "examples/softflowd.nfcapd")
+        found = inside.texts("report", "--", word, *options.split(), ROOT / "examples/softflowd.nfcapd")
         self.assertEqual((found[1], found[2].split("\n")[0]), ("", fault))
         self.assertRegex(found[2], f"\nflowlabel-report: .*{re.escape(cure)}.*\n\\Z")
 
     def test_a_file_of_nfcapd(self):
         name = ROOT / "examples/softflowd.nfcapd"
-        self.assertEqual(texts(REPORT, "--", "rows", name), (
+        self.assertEqual(inside.texts("report", "--", "rows", name), (
             1, "", f"flowlabel: {name}: F2 BadVersion at 0\n"
             "flowlabel-report: flowlabel-audit FILE says what the file is, and the cure\n"))
 

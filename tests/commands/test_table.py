@@ -14,6 +14,7 @@ nftables, which mark packets. Then two of its ranges change and change back.
 import bisect
 import csv
 import fcntl
+import functools
 import glob
 import itertools
 import json
@@ -29,7 +30,7 @@ import sys
 import types
 import unittest
 
-from support import PROGRAM, ROOT, command, needs, read, rows, stand_in, texts, write
+from support import PROGRAM, ROOT, command, inside, needs, read, rows, stand_in, texts, write
 from support.changes import PIPES, failing, output, planting, stands_in, waiting
 from support.exporters import BOUND
 from support.namespaces import Isolated, refused
@@ -181,20 +182,21 @@ FAULTS = (
     ("ranges", b"low|high|label\n0.0.0.0|0.0.0.9|\n0.0.0.10|255.255.255.255|A\n",
      "line 2: these addresses have no label. Give the list an entry for all addresses"),
 )
-# Runs a script of which each change of a file is a step, too. Such a step fails, or a signal comes, before it does
-# anything.
-RUNS = """
-import os, runpy, signal, sys
+# Makes each change of a file a step, too, if steps are killed or get a signal. Such a step fails, or a signal comes,
+# before it does anything. A test adds this hook to its own process for good.
+HOOK = """
+import os, signal, sys
 CHANGES = ("os.rename", "os.link", "os.remove", "os.mkdir", "os.rmdir", "os.symlink")
-STEPS = os.environ["STEPS"]
 
 def hook(event, words):
-    is_writing = (event == "open" and isinstance(words[0], str) and words[0] != STEPS
+    if event not in CHANGES and event != "open" or os.environ.get("HOW") not in ("killed", "signal"):
+        return
+    is_writing = (event == "open" and isinstance(words[0], str) and words[0] != os.environ["STEPS"]
                   and words[2] & (os.O_WRONLY | os.O_RDWR))
     if event in CHANGES or is_writing:
-        with open(STEPS) as file:
+        with open(os.environ["STEPS"]) as file:
             step = int(file.read()) + 1
-        with open(STEPS, "w") as file:
+        with open(os.environ["STEPS"], "w") as file:
             file.write(f"{step}\\n")
         if step == int(os.environ["FAILING"]):
             if os.environ["HOW"] == "signal":
@@ -203,6 +205,10 @@ def hook(event, words):
             raise OSError(f"failed on purpose: {event}")
 
 sys.addaudithook(hook)
+"""
+# Runs a script with the hook.
+RUNS = f"""{HOOK}
+import runpy
 sys.argv = sys.argv[1:]
 runpy.run_path(sys.argv[0], run_name="__main__")
 """
@@ -264,6 +270,17 @@ else:
 """
 
 
+@functools.cache
+def add_hook():
+    """Adds the hook to this process, once."""
+    exec(HOOK, {})
+
+
+def table(*words, **options):
+    """Runs the command in this process, and returns its status and its two outputs as texts."""
+    return inside.texts("table", *words, **options)
+
+
 class OwnLock(Isolated):
     """Tests with a /run of their own, if that is permitted: no other test has the lock of the command then."""
     spaces, is_needed = ("mnt",), False
@@ -283,7 +300,7 @@ class OwnLock(Isolated):
 
     def assert_texts(self, words, status, said):
         """Checks how the command ends, without output, and what it reports."""
-        self.assertEqual(texts(TABLE, *words), (status, "", said))
+        self.assertEqual(table(*words), (status, "", said))
 
 
 class Inputs(OwnLock):
@@ -292,12 +309,12 @@ class Inputs(OwnLock):
     @rows(*INPUTS)
     def test_input(self, kind, source, wanted):
         write("source.txt", source)
-        status, _, said = texts(TABLE, "--name", "t", kind, "source.txt", self.folder)
+        status, _, said = table("--name", "t", kind, "source.txt", self.folder)
         self.assertEqual((status, said), (0, ""))
         self.assertEqual({name: read(f"{self.folder}/{name}") for name in wanted}, wanted)
         before = read(f"{self.folder}/labels.txt")
         write("source.txt", b"mode ipv4\n0.0.0.0/0 new\n1.0.0.0/8 A\n")
-        output(TABLE, "pmacct", "source.txt", self.folder)
+        self.assertEqual(table("pmacct", "source.txt", self.folder)[0], 0)
         self.assertEqual(read(f"{self.folder}/labels.txt")[:len(before)], before)
 
     @rows(*FAULTS)
@@ -307,9 +324,27 @@ class Inputs(OwnLock):
         self.assert_texts([kind, "source.txt", self.folder], 1, f"flowlabel-table: source.txt: {why}\n")
         self.assertEqual(os.listdir(self.folder), ["labels.txt"])
 
+    def test_a_label_with_a_carriage_return(self):
+        write("source.txt", b"mode ipv4\n0.0.0.0/0 a\rb\n1.0.0.0/8 c\n")
+        for _ in range(2):
+            self.assertEqual(table("linux", "source.txt", self.folder)[::2], (0, ""))
+        with open(f"{self.folder}/labels.txt", "rb") as file:
+            self.assertEqual(file.read(), b"1 a\rb\n2 c\n")
+
+    def test_full_disk(self):
+        os.mkdir(self.folder)
+        if not self.is_isolated or refused((f"mount -t tmpfs -o size=4k none {self.folder}",)):
+            self.skipTest("no file system can be mounted")
+        self.addCleanup(output, "umount", self.folder)
+        write("source.txt", b"mode ipv4\n0.0.0.0/0 A\n" + b"".join(b"10.%d.0.0/16 B\n10.%d.7.0/24 A\n" % (block, block)
+                                                                        for block in range(256)))
+        self.assert_texts(["tsv", "source.txt", self.folder], 4,
+                          f"flowlabel-table: {self.folder}/flowlabel4.tsv: No space left on device\n")
+        self.assertEqual(os.listdir(self.folder), [])
+
     def test_folder_of_a_faulty_list(self):
         write("source.txt", RANGES)
-        self.assertEqual(texts(TABLE, "tsv", "source.txt", "never")[0], 1)
+        self.assertEqual(table("tsv", "source.txt", "never")[0], 1)
         self.assertFalse(os.path.exists("never"))
 
     @rows(("1 A\n1 B\n",), ("1 A\n2 A\n",))
@@ -329,10 +364,7 @@ class Inputs(OwnLock):
           ("nft", "nft", "nftables"))
     def test_missing_package(self, kind, program, package):
         write("source.txt", RANGES if kind == "nft" else IPV4)
-        os.makedirs(self.folder)
-        os.symlink(sys.executable, f"{self.folder}/python3")
-        status, _, said = texts(sys.executable, TABLE, "--load", kind, "source.txt", "missing",
-                                variables={"PATH": os.path.abspath(self.folder)})
+        status, _, said = table("--load", kind, "source.txt", "missing", variables={"PATH": "/nowhere"})
         self.assertEqual((status, said), (1, f"flowlabel-table: there is no {program} (Debian: {package})\n"))
 
     @rows(("offices",), ("customers",))
@@ -340,8 +372,8 @@ class Inputs(OwnLock):
         name = ROOT / f"examples/{name}.txt"
         addresses = ["10.1.20.1", "0.0.0.0", "255.255.255.255", "::", "::ffff:10.2.128.1", "2001:db8:6::1", "fe80::1"]
         lines = "".join(f"{address}\n" for address in addresses)
-        self.assertEqual(output(command("lookup"), "--pmap", name, given=lines),
-                         "".join(output(PROGRAM, "label", "--pmap", name, address) for address in addresses))
+        self.assertEqual(inside.texts("lookup", "--pmap", name, input=lines), (
+            0, "".join(output(PROGRAM, "label", "--pmap", name, address) for address in addresses), ""))
 
     @rows(*ENTRIES)
     def test_most_entries(self, kind, source, count):
@@ -349,7 +381,7 @@ class Inputs(OwnLock):
         self.assert_texts(["--max", str(count - 1), kind, "source.txt", self.folder], 1, "flowlabel-table: source.txt: "
                           f"the table would have {count} entries, and --max allows {count - 1}\n")
         self.assertFalse(os.path.exists(self.folder))
-        status, _, said = texts(TABLE, "--max", str(count), kind, "source.txt", self.folder)
+        status, _, said = table("--max", str(count), kind, "source.txt", self.folder)
         self.assertEqual((status, said, os.path.exists(self.folder)), (0, "", True))
 
 
@@ -383,7 +415,7 @@ class Signals(OwnLock):
         # Pidfiles of plugins may be old, so they aren't read.
         write("daemon.pid-print", f"{stranger.pid}\n")
         write("daemon.pid-memory", f"{other.pid}\n")
-        status, _, said = texts(TABLE, *self.words)
+        status, _, said = table(*self.words)
         self.assertEqual((status, said, os.path.exists("signals")), (0, "", True))
         self.assertEqual({daemon.stdout.readline(), daemon.stdout.readline()}, {"core reads\n", "plugin reads\n"})
         self.assertIsNone(stranger.poll())
@@ -875,20 +907,20 @@ class Tables(Isolated):
             for what, content in contents.items():
                 write(f"{name}-{what}.txt", content)
         write("runs.py", RUNS)
+        add_hook()
 
     def mark(self):
         """Makes the table mark packets, if it is for that."""
 
     def words(self, source, *how, folder=None):
-        """Returns the command that brings a table into the folder named after its kind, or into another one."""
-        return [TABLE, *(how or self.loading), *self.control, self.kind, getattr(source, self.source),
-                folder or self.kind]
+        """Returns the words that bring a table into the folder named after its kind, or into another one."""
+        return [*(how or self.loading), *self.control, self.kind, getattr(source, self.source), folder or self.kind]
 
     def load(self, source, *how):
         """Loads or updates a table. Maps of BPF take memory only if some is free at once, so this may need several
         tries."""
         for _ in range(10):
-            ended = texts(*self.words(source, *how))
+            ended = table(*self.words(source, *how))
             if "Cannot allocate memory" not in ended[2]:
                 break
         return ended
@@ -938,10 +970,10 @@ class Tables(Isolated):
         def is_complete():
             return self.entries() == wanted and self.load(self.after, "--update")[1].endswith(" 0 changed\n")
         for step in itertools.count(1):
-            runner = [sys.executable, "runs.py"] if does in ("killed", "signal") else []
             sent = ("INT", "TERM", "HUP")[step % 3]
-            status, _, said = texts(*runner, *self.words(self.after, how),
-                                    variables={**path, **failing(step, does, SENT=sent)})
+            # A signal ends a process of its own.
+            run = functools.partial(texts, sys.executable, "runs.py", TABLE) if does == "signal" else table
+            status, _, said = run(*self.words(self.after, how), variables={**path, **failing(step, does, SENT=sent)})
             lines, now, is_last = said.count("\n"), self.state(), int(read("steps")) < step
             changed = " and ".join(what for what in was if now[what] != was[what])
             if status != 0:
@@ -1015,16 +1047,16 @@ class Unapplied:
         self.addCleanup(write, "bird.conf", self.configuration)
         write("bird.conf", self.configuration + "protocol static unfinished { ipv4; route 192.0.2.0/24 blackhole; }\n")
         path = [stand_in(name, '#!/bin/sh\necho "$0 $*" >>"$LOG"\n') for name in self.needed][-1]
-        status, found, said = texts(*self.words(self.after, how), variables={
+        status, found, said = table(*self.words(self.after, how), variables={
             **path, "LOG": os.path.abspath(write("log", ""))})
         self.assertEqual((status, found, said), (0, f"bird: 5 blocks of IPv4 and 5 of IPv6, made\n{self.said}", ""))
         self.assertEqual((self.everything(), read("log")), (was, ""))
 
     def test_no_control(self):
-        words = [TABLE, "--load", "--control", "a b", "bird", self.after.list, "bird"]
-        self.assertEqual(output(*words).splitlines()[1:], ["check: birdc -s 'a b' configure check",
-                                                           "use:   birdc -s 'a b' configure"])
-        self.assertEqual(output(TABLE, "--load", "bird", self.after.list, "bird").splitlines()[1:],
+        found = table("--load", "--control", "a b", "bird", self.after.list, "bird")[1]
+        self.assertEqual(found.splitlines()[1:], ["check: birdc -s 'a b' configure check",
+                                                  "use:   birdc -s 'a b' configure"])
+        self.assertEqual(table("--load", "bird", self.after.list, "bird")[1].splitlines()[1:],
                          ["check: birdc configure check", "use:   birdc configure"])
 
 
@@ -1055,7 +1087,7 @@ class Updates:
         self.start(self.before if has_table else None)
         was = self.state()
         for how in ("--load", "--update"):
-            status, _, said = texts(*self.words(self.before, "--max", "4", how))
+            status, _, said = table(*self.words(self.before, "--max", "4", how))
             self.assertEqual((status, said.count("\n"), self.state()), (1, 1, was))
 
     def test_pipes(self):
@@ -1063,7 +1095,7 @@ class Updates:
         self.start(None)
         for source, how in ((self.before, "--load"), (self.after, "--update")):
             *words, name, folder = self.words(source, how)
-            self.assertEqual(texts(*words, "/dev/stdin", folder, input=read(name))[::2], (0, ""))
+            self.assertEqual(table(*words, "/dev/stdin", folder, input=read(name))[::2], (0, ""))
         self.assertEqual(self.entries(), wanted)
 
     def test_another_name(self):
@@ -1073,7 +1105,7 @@ class Updates:
         was = self.entries()
         for source, how, done in ((self.before, "--load", "loaded"), (self.after, "--update", " changed"),
                                   (self.after, "--update", " 0 changed")):
-            found = output(*self.words(source, "--name", "flowlabel_b", how))
+            found = table(*self.words(source, "--name", "flowlabel_b", how))[1]
             self.assertEqual((found.endswith(f"{done}\n"), self.entries()), (True, was), found)
         for source, done in ((self.before, " 0 changed\n"), (self.after, " changed\n")):
             status, found, said = self.load(source, "--update")
@@ -1084,7 +1116,7 @@ class Updates:
         self.start(self.before)
         wanted = self.entries()
         for _ in range(3):
-            loads = [subprocess.Popen(self.words(self.before), **PIPES) for _ in range(2)]
+            loads = [subprocess.Popen([TABLE, *self.words(self.before)], **PIPES) for _ in range(2)]
             statuses = [load.communicate() and load.returncode for load in loads]
             self.assertEqual((statuses, self.entries()), ([0, 0], wanted))
 
@@ -1097,7 +1129,7 @@ class Strangers:
 
     def assert_refused(self, how, *words, why):
         """Checks that the command fails with one line, and that all is as before."""
-        was, (status, found, said) = self.state(), texts(*self.words(self.after, how, *words))
+        was, (status, found, said) = self.state(), table(*self.words(self.after, how, *words))
         self.assertEqual((status, found, said.count("\n")), (1, "", 1), said)
         self.assertRegex(said, why)
         self.assertEqual(self.state(), was)
@@ -1123,7 +1155,7 @@ class Strangers:
         self.start(self.before)
         was = self.state()
         for how in ("--load", "--update"):
-            status, _, said = texts(*self.words(self.after, how, folder="another"))
+            status, _, said = table(*self.words(self.after, how, folder="another"))
             self.assertEqual((status, self.state(), os.path.exists("another")), (1, was, False), said)
         self.assert_loaded(self.after, "--update")
 
@@ -1143,7 +1175,6 @@ class Countries:
             if not os.path.exists(name):
                 raise unittest.SkipTest(f"there is no {name} (Debian: tor-geoipdb)")
         super().prepare()
-        output(command("country"), "country.txt", "tor")
 
 
 class Whole(Countries):
@@ -1151,17 +1182,25 @@ class Whole(Countries):
     is_long = True
 
     def test_table(self):
+        output(command("country"), "country.txt", "tor")
         whole = Map("whole", read("country.txt"))
         self.assert_loaded(whole)
         self.assert_answers(whole, PROBES)
+
+
+def thin_lines(name):
+    """Returns lines of a map for every 20th range of a file of Tor."""
+    with open(name, encoding="utf-8") as file:
+        cells = [line.rstrip("\n").split(",") for line in file if not line.startswith("#")]
+    return [" ".join([*(text_of(4, int(end)) if end.isdigit() else end for end in ends), f"{code}\n"])
+            for *ends, code in cells[::20]]
 
 
 class Changes(Countries):
     """A table of a smaller map, then with two ranges that differ, then back. A table of marks then marks packets."""
 
     def test_changes(self):
-        lines = read("country.txt").splitlines(True)
-        lines = lines[:3] + lines[3::20]
+        lines = ["mode ipv6\n", "default unknown\n", *thin_lines(TOR[1]), *thin_lines(TOR[0])]
         thin = Map("thin", "".join(lines))
         other = Map("other", "".join([*lines, *(f"{low} {high} here\n" for low, high in CHANGED.values())]))
         self.assert_loaded(thin)

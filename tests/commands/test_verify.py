@@ -19,11 +19,12 @@ import random
 import re
 import sys
 
-from support import PROGRAM, ROOT, Case, command, load, made, outcome, read, read_bytes, rows, write
+from support import PROGRAM, ROOT, Case, inside, load, made, outcome, read, read_bytes, rows, write
 from support.maps import EMPTY, ENDS, HALVES, LAST, WORDS, damaged_bytes, damaged_certificate, damaged_table
 from support.maps import faulty_line, made_map, renumbered
 
-VERIFIER = command("verify")
+# The file alone, which needs no other of the package.
+VERIFIER = ROOT / "lib/flowlabel/commands/verify.py"
 SEED = 20260101
 CODES = [f"M{number}" for number in range(1, 15)] + [f"{kind}{number}" for kind in "CK" for number in range(1, 7)]
 NAMES = ["map.txt", "list.txt", "cert.txt"]
@@ -32,7 +33,7 @@ MADE_MAPS, DAMAGED, LEAST_DAMAGED = 20, 60, 25
 FAULTY_LINES = 100
 # The maximum number of mappings in place of that of the definitions.
 MAPPINGS = 1000
-# Of this many runs of flowlabel-verify one is a process.
+# Of this many runs of flowlabel-verify one is of the whole command, and of these one in ten is a process.
 ONE_IN = 50
 
 
@@ -45,10 +46,12 @@ class Comparison(Case):
         cls.compared = 0
 
     def result(self, names):
-        """Returns how flowlabel-verify ends: mostly what a process would return, by a call."""
+        """Returns how flowlabel-verify ends, mostly by a call of its function `verify`."""
         type(self).compared += 1
-        if self.compared % ONE_IN == 1:
+        if self.compared % (10 * ONE_IN) == 1:
             return outcome(sys.executable, VERIFIER, *names)
+        if self.compared % ONE_IN == 1:
+            return inside.outcome("verify", *names)
         status, line = self.verify(names)
         text = f"{line}\n".encode()
         return status, b"" if status else text, text if status else b""
@@ -388,7 +391,7 @@ class Files(Comparison):
         """Help is printed wherever it is asked for, and after -- a name may begin with a dash."""
         for words in (["--help"], [NAMES[0], "-h"]):
             status, output, error = outcome(sys.executable, VERIFIER, *words)
-            self.assertEqual((status, output[:36], error), (0, b"Checks a certificate without flowlab", b""))
+            self.assertEqual((status, output[:37], error), (0, b"usage: flowlabel-verify MAP LIST CERT", b""))
         os.link(NAMES[0], "-x")
         self.assertEqual(outcome(sys.executable, VERIFIER, "--", "-x", *NAMES[1:]),
                          outcome(sys.executable, VERIFIER, *NAMES))

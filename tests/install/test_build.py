@@ -17,7 +17,7 @@ import time
 import unittest
 
 from support import FOREVER, ROOT, Case, outcome, read, rows, write
-from support.trees import BUILT, FEW, KIT, LOGIC, RECORD, Held, Tree, digest
+from support.trees import BUILT, BUILT_MANY, FEW, KIT, LOGIC, RECORD, Held, Tree, digest
 
 # An installed program. It records each call, prints its words and fails.
 INSTALLED = """#!/bin/sh
@@ -28,7 +28,13 @@ exit 7
 # A number of seconds after which a script gives up.
 LIMIT = re.compile(r"(?:timeout(?:=| |\()|--seconds |(?:SECONDS|FOREVER) = |\b(?:sleep|alarm\()|"
                    r"(?:monotonic\(\) \+|wait\()) ?(\d+)")
-CHOICE = "lib/flowlabel/program"
+# Prints the program of a name, flowlabel or flowlabel-many, that the commands beside a folder lib run.
+CHOICE = """import sys
+sys.dont_write_bytecode = True
+sys.path.insert(0, sys.argv[1])
+from flowlabel import process, programs
+sys.exit(process.status_of("any", lambda words: process.say(programs.find(*words)) or 0, sys.argv[2:]))
+"""
 NOTHING_TO_DO = "dev/build: bin/flowlabel is built, and no source is younger\n"
 WAITS = "dev/build: another build or a gate of this tree is running, and this build waits for it\n"
 STOPPED = "dev/build: the build was stopped; the next call continues from what is proved\n"
@@ -44,6 +50,10 @@ class TreeCase(Case):
         cls.not_built = f"bin/flowlabel: the program is not built: run `make` in {cls.tree.root}\n"
         cls.failed = (f"dev/build: the build failed: see {cls.tree.path('out/build.log')}. Run `make` again, and it "
                       "continues from what is proved")
+
+    def chosen(self, library, name="flowlabel", **variables):
+        """Returns the program that commands beside a folder lib run, as a call does."""
+        return self.tree.call(sys.executable, "-I", "-c", CHOICE, library, name, **variables)
 
     def build(self, *words, **variables):
         """Has `make` build the program anew, and returns its messages and what the stub recorded."""
@@ -79,18 +89,32 @@ class NotBuilt(TreeCase):
     """In a tree without a program, whoever needs it is told to run `make`, and nothing begins."""
 
     @unittest.skipIf(shutil.which("flowlabel"), "there is a flowlabel on the path")
-    @rows(("bin/flowlabel",), ("bin/flowlabel", "label"), (CHOICE,), (CHOICE, "label"),
-          ("bin/flowlabel-lint", MAP), ("bin/flowlabel-lookup", "--pmap", MAP),
+    @rows(("bin/flowlabel",), ("bin/flowlabel", "label"), ("bin/flowlabel-many",), ("bin/flowlabel-lint", MAP), ("bin/flowlabel-lookup", "--pmap", MAP),
           ("bin/flowlabel-capture", "examples/export.pcap", "new"), ("bin/flowlabel-customers", "missing.csv"),
           ("bin/flowlabel-fib", "--check", "100"), ("bin/flowlabel-report", "--", "rows", "examples/softflowd.ipfix"),
-          ("bin/flowlabel-many",), (CHOICE, "--many"), ("bin/flowlabel-audit", "examples/softflowd.ipfix"),
+          ("bin/flowlabel-audit", "examples/softflowd.ipfix"),
           ("bin/flowlabel-bill", "--by", "day", "examples/softflowd.ipfix"),
           ("bin/flowlabel-report", "--", "bill", "--by", "day", "examples/softflowd.ipfix"))
     def test_a_line_says_make(self, *words):
-        before, is_many = self.tree.files(), re.search("many|audit|bill", " ".join(words))
-        line = self.not_built.replace("label:", "label-many:") if is_many else self.not_built
-        self.assertEqual(self.tree.call(*words), (125, "", line))
+        before, line = self.tree.files(), self.not_built
+        name = "flowlabel-many" if re.search("many|audit|bill", " ".join(words)) else "flowlabel"
+        variable = name.upper().replace("-", "_")
+        if "-" in words[0].replace("-many", ""):
+            last = "bill" if "bill" in words else words[0].partition("-")[2]
+            line = (f"flowlabel-{last}: {name} isn't built: run `make` in {self.tree.root}, or name a program by "
+                    f"{variable}\n")
+        self.assertEqual(self.tree.call(*words), (125, "", line.replace("bin/flowlabel:", f"bin/{name}:")))
         self.assertEqual((self.tree.files(), self.tree.calls()), (before, []))
+
+    @rows(("bin/flowlabel-lint", MAP), ("bin/flowlabel-audit", "examples/softflowd.ipfix"))
+    def test_a_line_names_the_trial(self, *words):
+        trial = self.tree.path("out/trial/flowlabel")
+        self.tree.put("out/trial/flowlabel", "#!/bin/sh\n")
+        self.addCleanup(shutil.rmtree, os.path.dirname(trial))
+        os.chmod(trial, 0o755)
+        status, output, line = self.tree.call(*words)
+        self.assertEqual((status, output), (125, ""))
+        self.assertTrue(line.endswith(f" isn't built: run `make` in {self.tree.root}, or set FLOWLABEL={trial}\n"), line)
 
     @classmethod
     def prepare(cls):
@@ -102,8 +126,9 @@ class NotBuilt(TreeCase):
         self.assertEqual(self.tree.call(os.path.abspath("link"), "label"), (125, "", self.not_built))
 
     def test_bin_on_the_path(self):
-        found = self.tree.call(CHOICE, PATH=f"{self.tree.path('bin')}:{os.environ['PATH']}")
-        self.assertEqual(found, (125, "", self.not_built))
+        found = self.chosen("lib", PATH=f"{self.tree.path('bin')}:{os.environ['PATH']}")
+        self.assertEqual(found, (125, "", f"any: flowlabel isn't built: run `make` in {self.tree.root}, or name a program "
+                                          "by FLOWLABEL\n"))
 
     def test_tests(self):
         status, output, messages = self.tree.call("make", "check")
@@ -152,17 +177,26 @@ class Chosen(TreeCase):
         shutil.copytree(cls.tree.path("lib"), "alone/lib")
         cls.tree.script("flowlabel", INSTALLED)
 
-    @rows((CHOICE,), (f"../alone/{CHOICE}",))
-    def test_named(self, script):
-        self.assertEqual(self.tree.call(script, FLOWLABEL="cat"), (0, "cat\n", ""))
-        self.assertEqual(self.tree.call(script, FLOWLABEL="bin/x"),
-                         (125, "", f"{CHOICE}: FLOWLABEL names no program: bin/x\n"))
-        self.assertEqual(self.tree.call(script, FLOWLABEL="bin/flowlabel"),
+    @rows(("lib",), ("../alone/lib",))
+    def test_named(self, library):
+        self.assertEqual(self.chosen(library, FLOWLABEL="cat"), (0, "cat\n", ""))
+        self.assertEqual(self.chosen(library, FLOWLABEL="bin/x"),
+                         (125, "", "any: FLOWLABEL names no program: bin/x\n"))
+        self.assertEqual(self.chosen(library, FLOWLABEL="bin/flowlabel"),
                          (0, f"{self.tree.path('bin/flowlabel')}\n", ""))
 
+    @rows(("beside it", "bin/flowlabel", "bin/flowlabel-many"), ("where make builds it", BUILT, BUILT_MANY))
+    def test_many(self, _, named, many):
+        """FLOWLABEL alone is enough."""
+        for name in (BUILT, BUILT_MANY):
+            self.tree.put(name, "#!/bin/sh\n")
+            self.addCleanup(os.remove, self.tree.path(name))
+            os.chmod(self.tree.path(name), 0o755)
+        self.assertEqual(self.chosen("../alone/lib", "flowlabel-many", FLOWLABEL=named),
+                         (0, f"{self.tree.path(many)}\n", ""))
+
     def test_on_the_path(self):
-        self.assertEqual(self.tree.call(CHOICE), (0, f"{self.tree.stub}/flowlabel\n", ""))
-        self.assertEqual(self.tree.call(CHOICE, "a", "b"), (7, "installed a b\n", ""))
+        self.assertEqual(self.chosen("lib"), (0, f"{self.tree.stub}/flowlabel\n", ""))
 
     @rows(("lint", MAP), ("lookup", "--pmap", MAP))
     def test_commands(self, name, *words):
@@ -176,13 +210,12 @@ class Chosen(TreeCase):
         os.mkdir("prefix/bin")
         shutil.copy(shutil.which("echo"), "prefix/bin/flowlabel")
         there = os.path.abspath("prefix/bin/flowlabel")
-        self.assertEqual(self.tree.call(f"../prefix/{CHOICE}"), (0, f"{there}\n", ""))
-        self.assertEqual(self.tree.call(f"../prefix/{CHOICE}", "a", "b"), (0, "a b\n", ""))
+        self.assertEqual(self.chosen("../prefix/lib"), (0, f"{there}\n", ""))
 
     def test_nowhere(self):
         there = os.path.abspath("alone/bin/flowlabel")
-        self.assertEqual(self.tree.call(f"../alone/{CHOICE}", "a"),
-                         (125, "", f"{CHOICE}: there is no {there}, and FLOWLABEL names no other program\n"))
+        self.assertEqual(self.chosen("../alone/lib"),
+                         (125, "", f"any: there is no {there}, and FLOWLABEL names no other program\n"))
 
 
 class FirstBuild(TreeCase):
@@ -230,8 +263,7 @@ class Builds(TreeCase):
         self.tree.script("flowlabel", INSTALLED)
         self.addCleanup(os.remove, os.path.join(self.tree.stub, "flowlabel"))
         self.change("crates.txt")
-        self.assertEqual(self.tree.call(CHOICE), (0, f"{self.tree.path(BUILT)}\n", ""))
-        self.assertEqual(self.tree.call(CHOICE, "a", "b"), (3, "program a b\n", ""))
+        self.assertEqual(self.chosen("lib"), (0, f"{self.tree.path(BUILT)}\n", ""))
         self.assertEqual(self.tree.calls(), [])
 
     @rows(("src/below/part.rt",), ("specs/Lib.antt",))

@@ -24,8 +24,8 @@ DOC = "share/doc/flowlabel"
 PAGES = ("share/man/man1/flowlabel.1", "share/man/man1/flowlabel-scripts.1", "share/man/man5/flowlabel-formats.5")
 COMPLETIONS = {"bash": "share/bash-completion/completions/flowlabel", "zsh": "share/zsh/site-functions/_flowlabel",
                "fish": "share/fish/vendor_completions.d/flowlabel.fish"}
-DOCS = ("README.md", "CHANGELOG.md", "GUIDE.md", "FORMATS.md", "TABLES.md", "PROOFS.md", "DEFINITIONS.md", "bill.svg",
-        "minutes.svg", "copyright")
+DOCS = ("README.md", "CHANGELOG.md", "BILL.md", "GUIDE.md", "FORMATS.md", "TABLES.md", "PROOFS.md", "DEFINITIONS.md",
+        "bill.svg", "minutes.svg", "copyright")
 COMMANDS = ("label", "info", "rows", "uniq", "cat", "shrink", "check", "recert")
 # Only the system's folders, which have no rt.
 SYSTEM = f"{os.path.dirname(sys.executable)}:/usr/bin:/bin"
@@ -117,7 +117,9 @@ class Files(InstallCase):
     def test_again(self):
         """An installation over one whose program runs, by a user with another umask. An editor's files aren't
         installed."""
-        self.tree.put("lib/flowlabel/shared.py~", "")
+        for name in ("lib/flowlabel/process.py~", "lib/flowlabel/commands/bill.py~",
+                     "lib/flowlabel/commands/__pycache__/bill.cpython-311.pyc"):
+            self.tree.put(name, "")
         self.tree.put("examples/.offices.txt.swp", "")
         words = ("sh", "-c", 'umask 077 && exec make install DESTDIR="$1" PREFIX="$2"', "sh", self.folder, PREFIX)
         with subprocess.Popen([f"{self.top}/bin/flowlabel", "cat", "--pmap", "/dev/stdin"], stdin=subprocess.PIPE,
@@ -241,7 +243,7 @@ class Installed(InstallCase):
     def test_readme(self):
         """The installed README says nothing of building."""
         text = self.page(f"{DOC}/README.md")
-        self.assertEqual([part for part in ("flowlabel --version", "## Install", "bin/flowlabel") if part in text], [])
+        self.assertEqual([part for part in ("flowlabel --version", "## Build", "## Install", "bin/flowlabel", "make bill") if part in text], [])
 
     def test_names_of_help(self):
         """No command and no option is missing where a user looks for it."""

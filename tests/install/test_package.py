@@ -32,8 +32,8 @@ LINES = (
     ("cat PREFIX/share/doc/flowlabel/copyright | head -n 1",
      "Format: https://www.debian.org/doc/packaging-manuals/copyright-format/1.0/\n"),
     ("man -w flowlabel-lint | xargs readlink -f", "PREFIX/share/man/man1/flowlabel-scripts.1GZ\n"),
-    ("readlink -f PREFIX/bin/flowlabel-verify PREFIX/lib/flowlabel/program",
-     "PREFIX/bin/flowlabel-verify\nPREFIX/lib/flowlabel/program\n"),
+    ("readlink -f PREFIX/bin/flowlabel-verify PREFIX/lib/flowlabel/commands/verify.py",
+     "PREFIX/bin/flowlabel-verify\nPREFIX/lib/flowlabel/commands/verify.py\n"),
     # A system that installs no documentation.
     ("mv PREFIX/share/doc/flowlabel /tmp/doc && cd /tmp && echo 10.1.1.1 | flowlabel-lookup --pmap map.txt; "
      "mv /tmp/doc PREFIX/share/doc/flowlabel", "B\n"),
@@ -127,7 +127,8 @@ class Packages(PackageCase):
     def test_interpreters(self):
         programs = ("deb/usr/bin/flowlabel", "deb/usr/bin/flowlabel-many")
         scripts = [path for path in files_below("deb") if os.access(path, os.X_OK) and path not in programs]
-        self.assertEqual({read(path).split("\n")[0] for path in scripts}, {"#!/bin/sh", "#!/usr/bin/python3"})
+        self.assertEqual({read(path).split("\n")[0] for path in scripts}, {
+            "#!/bin/sh", "#!/usr/bin/python3", "#!/usr/bin/env -S --block-signal=INT /usr/bin/python3 -I"})
 
     def test_same_files(self):
         """Both have the same programs and commands."""
@@ -213,7 +214,8 @@ class Unpacked(ArchiveCase):
 class PagesOfArchive(ArchiveCase):
     """The examples of the installed pages."""
 
-    @rows(("README.md", 3), ("examples/README.md", 40), ("GUIDE.md", 30), ("FORMATS.md", 3), ("TABLES.md", 5))
+    @rows(("README.md", 3), ("examples/README.md", 40), ("BILL.md", 15), ("GUIDE.md", 25), ("FORMATS.md", 3),
+          ("TABLES.md", 5))
     def test_commands_of_page(self, name, least):
         """The examples of an installed page, but for those that need other programs."""
         from support import examples

@@ -1,14 +1,16 @@
 """flowlabel-many beside flowlabel and flowlabel-report, over generated sets of Files, and its limits and devices.
 
 A set has one to four Files of random templates, records and messages, some of them damaged. The table of `sum --by`
-must be, byte for byte, that of `flowlabel-report --by` over what `flowlabel rows` prints of each File, one after the other;
-the table of `sum` that of `flowlabel uniq --sort-output` over the joined File, if each File has its templates; and the
-columns of `messages` must add up to the counts of `flowlabel info` for each File. A fault must be the first one in the
-order of the Files. Which message of a File it is at follows from the counts and the rows of the File's fronts.
+must be, byte for byte, that of flowlabel-report over what `flowlabel rows` prints of each File, one after the other, if
+each row is a record at the time that is worked out here; the table of `sum` that of `flowlabel uniq --sort-output` over
+the joined File, if each File has its templates; and the columns of `messages` must add up to the counts of `flowlabel
+info` for each File. A fault must be the first one in the order of the Files. Which message of a File it is at follows
+from the counts and the rows of the File's fronts.
 
 SETS=2000 tests/run.py many.Generated runs more sets than the usual ones.
 """
 
+import datetime
 import os
 import random
 import re
@@ -22,9 +24,10 @@ SETS = int(os.environ.get("SETS") or 120)
 PART = 12
 SEED = 20261130
 FIELDS = ("sip", "dip", "sport", "dport", "proto", "flags", "src-label", "dst-label")
-# A unit, and its minutes if flowlabel-report has no such unit.
-UNITS = (("day", None), ("hour", None), ("minute", None), ("5m", 5), ("15m", 15), ("45m", 45), ("1440m", 1440),
-         ("1m", 1))
+# A unit, and its minutes.
+UNITS = (("day", 1440), ("hour", 60), ("minute", 1), ("5m", 5), ("15m", 15), ("45m", 45), ("1440m", 1440), ("1m", 1))
+# The columns of units, and what these have after the day.
+COLUMNS = {"day": ("day", ""), "hour": ("hour", "T%HZ")}
 FILTERS = ("--protocol 6", "--dport 0-1000", "--packets 2-", "--saddress 10.0.0.0/30,2001:db8::/32", "--bytes 1-")
 MAP = "mode ipv6\n10.0.0.0/31 A\n10.0.0.2 B\n2001:db8::/126 A\n2001:db8::2 a much longer label than others\n"
 # The elements of a row besides its addresses, each with the lengths that a row takes, and one that it doesn't.
@@ -147,19 +150,20 @@ class Wanted:
         raise AssertionError("no front has the fault")
 
     def table(self, unit, minutes, fields):
-        """Returns the table that flowlabel-report prints for the rows."""
-        table = self.rows
-        if minutes:
-            # Each start becomes the second millisecond of its unit, since a start of 0 would be none.
-            length = 60_000 * minutes
-            lines = [line.split(b"|") for line in table.splitlines()]
-            for line in lines[1:]:
-                start = int(line[8])
-                line[8] = b"%d" % (start and start // length * length + 1)
-            table, unit = b"".join(b"|".join(line) + b"\n" for line in lines), "minute"
-        write("table", table)
-        words = [*(["--by", unit] if unit else []), *(["--fields", ",".join(fields)] if fields else [])]
-        return run(command("report"), *words, "table", check=True).stdout
+        """Returns the sums of the rows, which flowlabel-report adds up: by fields, or of a table of sums by time."""
+        if not unit:
+            write("table", self.rows)
+            return run(command("report"), "--fields", ",".join(fields), "table", check=True).stdout
+        column, form = COLUMNS.get(unit, ("minute", "T%H:%MZ"))
+        header, *lines = [line.split("|") for line in self.rows.decode().splitlines()]
+        table = ["|".join((column, *fields, "records", "packets", "bytes"))]
+        for row in (dict(zip(header, line)) for line in lines):
+            start = int(row["stime"])
+            begin = datetime.datetime(1970, 1, 1) + datetime.timedelta(milliseconds=start - start % (60_000 * minutes))
+            time = f"{begin:%Y-%m-%d{form}}" if start else "0"
+            table.append("|".join((time, *map(row.get, fields), "1", row["packets"], row["bytes"])))
+        write("table", "\n".join(table) + "\n")
+        return run(command("report"), "table", check=True).stdout
 
 
 @needs_many
