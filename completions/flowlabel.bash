@@ -87,13 +87,13 @@ _flowlabel() {
     esac
 }
 
-# Completes the options that a command's help names, and files.
+# Completes the options that a command's help lists, at the beginnings of lines, and files.
 _flowlabel_command() {
     local word=${COMP_WORDS[COMP_CWORD]} options
     case $word in
     -*)
-        options=$("$(_flowlabel_plain "$1")" --help 2>/dev/null | grep -oE -e '(^|[^-a-z])--[a-z-]+' |
-            grep -oE -e '--.*')
+        options=$("$(_flowlabel_plain "$1")" --help 2>/dev/null | sed -n 's/^  \(-.*\)/\1/p' | sed 's/   *.*//' |
+            grep -oE -e '(^|, )--?[a-z0-9][a-z0-9-]*' | tr -d ', ')
         mapfile -t COMPREPLY < <(compgen -W "$options" -- "$word" | LC_ALL=C sort -u)
         ;;
     *) mapfile -t COMPREPLY < <(compgen -f -- "$word") ;;

@@ -95,10 +95,11 @@ complete -c flowlabel-many -n "$of sum" -l any-label -x -d 'Flows whose source o
     -a '(__flowlabel_labels)'
 complete -c flowlabel-many -n "$of sum" -l columns -d 'Pad the fields to columns'
 
-# The options that a command's help names.
+# The options that a command's help lists, at the beginnings of lines.
 function __flowlabel_options
     set -l words (commandline -op)
-    $words[1] --help 2>/dev/null | string match -ra '(?<![-a-z])--[a-z-]+' | sort -u
+    $words[1] --help 2>/dev/null | string match -r '^  -.*' | string replace -r '(?<=\S)  .*' '' |
+        string match -ra '(?<=^  |, )--?[a-z0-9][a-z0-9-]*' | sort -u
 end
 
 for name in audit bill capture country customers fib lint lookup nfcapd record report table verify

@@ -10,7 +10,7 @@
 - Faults: each code on a page has the name that the program prints with it. FORMATS.md and the manual have all codes.
 - Fields: the fields, columns and lines of `info` on pages and in completions are those of the program.
 - Options: each option and command of the help is in the manual and in the completions of bash, zsh and fish, with the
-  words of the help, and they have no other. Options that FORMATS.md names are those of the program or of a command.
+  words of the help, and they have no other.
 - Completions: files complete each option and argument that is a file. bash is asked, and fish if it is installed.
 - All of this holds for flowlabel-many too. If it isn't built, a test that needs it is skipped.
 - Links: each link of a page leads to a file and a heading, and each path that a page names is there. Lines are not too
@@ -36,8 +36,8 @@ COMMANDS_OF = {"flowlabel": ("label", "info", "rows", "uniq", "cat", "shrink", "
 COMMANDS = tuple(command for commands in COMMANDS_OF.values() for command in commands)
 # What help is asked of: a program, named alone, or a command.
 HELPED = (*COMMANDS_OF, *COMMANDS)
-PAGES = ("README.md", "examples/README.md", "docs/FORMATS.md", "docs/GUIDE.md", "docs/TABLES.md", "docs/DECISIONS.md",
-         "docs/DEFINITIONS.md", "docs/ARCHITECTURE.md", "man/flowlabel.1", "man/flowlabel-many.1",
+PAGES = ("README.md", "examples/README.md", "docs/BILL.md", "docs/FORMATS.md", "docs/GUIDE.md", "docs/TABLES.md",
+         "docs/DECISIONS.md", "docs/DEFINITIONS.md", "docs/ARCHITECTURE.md", "man/flowlabel.1", "man/flowlabel-many.1",
          "man/flowlabel-formats.5", "man/flowlabel-scripts.1")
 REFERENCE = ("docs/FORMATS.md", "man/flowlabel.1", "man/flowlabel-many.1", "man/flowlabel-formats.5")
 FILES = {"customers.txt": "examples/customers.txt", "flows.ipfix": "examples/softflowd-milli.ipfix",
@@ -408,10 +408,10 @@ class Options(Case):
         self.assertEqual(set(re.findall(r"Fl -([a-z-]+)", "\n".join(lines))),
                          {"version"}.union(*(options_of(help_of(command)) for command in COMMANDS_OF[program])))
 
-    @rows(*zip(COMMANDS_OF["flowlabel"]))
-    def test_words_of_manual(self, command):
+    @rows(*((command, program) for program, commands in COMMANDS_OF.items() for command in commands))
+    def test_words_of_manual(self, command, program):
         """The text of each option in the help begins its text in the manual."""
-        manual = dict(re.findall(r"(?m)^\.It Fl -([a-z-]+).*\n((?:[^.].*\n)+)", read("man/flowlabel.1")))
+        manual = dict(re.findall(r"(?m)^\.It Fl -([a-z-]+).*\n((?:[^.].*\n)+)", read(f"man/{program}.1")))
         for option, said in options_of(help_of(command)).items():
             with self.subTest(option):
                 said = re.split(", such as|:", said)[0]
@@ -437,12 +437,6 @@ class Options(Case):
             said = re.split(r", such as", said or about)[0]
             found.setdefault(f"--{option.lstrip('-')}" if option else command, set()).add(said[:1].upper() + said[1:])
         self.assertEqual(found, wanted)
-
-    @rows(("docs/FORMATS.md",), ("man/flowlabel-formats.5",))
-    def test_of_formats(self, page):
-        known = "".join(help_texts(*COMMANDS_OF).values()) + "".join(map(support.read, ROOT.glob("bin/flowlabel-*")))
-        found = set(re.findall(r"(?<![\w-])--[a-z][a-z-]*", read(page)))
-        self.assertLessEqual(found, set(re.findall(r"--[a-z][a-z-]*", known)))
 
     def test_filters_of_formats(self):
         table = read("docs/FORMATS.md").split("## Filters")[1].split("\n\n")[2]
