@@ -1,5 +1,6 @@
 # make                     builds the proved program, which bin/flowlabel runs: half an hour of CPU time, the first time
 # make trial               builds out/trial/flowlabel, which is not proved, in some minutes
+# make bill                prints the bill of README.md by the program that is built. If there is none, it makes a trial
 # make check               runs the tests over the program that is there. T='NAME ..' runs those with such names, and
 #                          JOBS=N runs N classes of tests at a time
 # make test                runs the gate, which also builds the program, and then all tests, as CI does. Whatever needs
@@ -10,7 +11,7 @@
 #                          (/usr/local), or removes them
 # make package             makes out/flowlabel-VERSION-x86_64-linux.tar.gz and out/flowlabel_VERSION_amd64.deb of them
 # make help                prints these lines
-.PHONY: build trial check test definitions bench install uninstall package help
+.PHONY: build trial bill check test definitions bench install uninstall package help
 .NOTPARALLEL:
 
 PREFIX = /usr/local
@@ -26,6 +27,9 @@ build:
 
 trial:
 	@dev/trial.py
+
+bill:
+	@dev/bill
 
 check:
 	@set -f; tests/run.py $$T

@@ -47,6 +47,10 @@ class Formats(OfPage, page="docs/FORMATS.md"):
     """docs/FORMATS.md"""
 
 
+class Bill(OfPage, page="docs/BILL.md"):
+    """docs/BILL.md"""
+
+
 class Guide(OfPage, page="docs/GUIDE.md"):
     """docs/GUIDE.md"""
 
