@@ -1,0 +1,9 @@
+pub mod Flow
+pub mod Reading
+pub mod Encode
+pub mod Pending
+pub mod File
+pub mod Gathering
+pub mod Making
+pub mod Opening
+pub mod Rejoining
