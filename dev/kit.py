@@ -321,6 +321,10 @@ LIBRARY = {
     "is_ascii_hexdigit": (1, "a hexadecimal digit", lambda b: b in codes("0123456789abcdefABCDEF")),
     "big_number": (2, "the number of the first n bytes, the highest first; missing ones are 0", lambda n, xs: (
         int.from_bytes(bytes(xs[:n]), "big") << 8 * max(n - len(xs), 0))),
+    "little_number": (2, "the number of the first n bytes, the lowest first; missing ones are 0", lambda n, xs: (
+        int.from_bytes(bytes(xs[:n]), "little"))),
+    "big_bytes": (2, "the lowest n bytes of a number, the highest first", lambda n, x: (
+        tuple((x % 256 ** n).to_bytes(n, "big")))),
 }
 
 # The words of clap. They divide a command line by the rules of its arguments: options with one value, flags, and words.
