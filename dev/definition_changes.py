@@ -31,6 +31,7 @@ VARIABLES = [("lower", "upper"), ("low", "high"), ("first", "last"), ("first", "
              ("old", "new")]
 # Fields that are exchanged for one another, each for the next one.
 FIELDS = [("src", "dst"), ("sport", "dport"), ("packets", "octets", "records"), ("start_ms", "end_ms"), ("low", "high"),
+          ("in_if", "out_if"), ("src_as", "dst_as"),
           ("start", "bits"), ("protocol", "flags"), ("mappings", "prefixes"), ("0", "1"),
           ("domain", "sequence", "export_time"), ("lower", "upper"), ("map", "list", "certificate", "flows"), ("failed", "stopped"), ("number", "length")]
 

@@ -666,11 +666,20 @@ class Definitions:
         if place not in self.values:
             match = self.source(place, rf"\bconst {own_name(place)}: [^=]+ = ([^;]+);")
             text = match[1] if match else cannot(f"src/ has no constant {place}")
-            text = re.sub(r"\b([A-Z]\w+)::(\w+)", rf"Case('{place.rpartition('.')[0]}.\1.\2')", text)
+            text = re.sub(r"\b([A-Z]\w+)::(\w+)", lambda m: f"Case('{self.home(place, m[1])}.{m[1]}.{m[2]}')", text)
             made = {tuple: lambda x: pair(*map(value, x)), list: lambda x: tuple(map(value, x))}
             value = lambda x: made.get(type(x), lambda x: x)(x)
             self.values[place] = value(eval(text, {"Case": Case}))
         return self.values[place]
+
+    def home(self, place, name):
+        """Returns the place of the enumeration with this name: in the file of a place, or in another crate."""
+        if self.source(place, rf"\benum {name}\b"):
+            return place.rpartition(".")[0]
+        for path in sorted(self.root.glob("crates/*/src/*.rt")):
+            if re.search(rf"\bpub enum {name}\b", path.read_text(encoding="utf-8")):
+                return f"{path.parts[-3]}.{path.stem}"
+        return cannot(f"src/ has no enumeration {name}")
 
     def definition(self, full):
         return self.modules[full[0]].definitions[full[1]]

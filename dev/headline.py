@@ -120,11 +120,11 @@ class Headline:
 
     def groups(self, fields, is_sorted, columns, labels, rows, outcome):
         """Notes the groups of the rows."""
-        in_field = self.all.function("flow_uniq/Grouped", "in_field")
+        part, numbers = (self.all.function("flow_uniq/Key", name) for name in ("key_part", "part_numbers"))
         label = self.all.call("label_lookup/Labelling.label_where", labels)
         found = {}
         for row in rows:
-            found.setdefault(tuple(tuple(in_field(label, row, field)) for field in fields), []).append(row)
+            found.setdefault(tuple(tuple(numbers(part(label, row, field))) for field in fields), []).append(row)
         groups = [found[key] for key in (sorted(found) if is_sorted else found)]
         self.found["some", "List RowView × List RowView"] = [(tuple(pair(g[0], tuple(g[1:])) for g in groups),)]
         places = tried(range(len(groups))) or (0,)

@@ -21,17 +21,17 @@ def groups(definitions, plain, label, fields, is_sorted, rows):
     grouped same (x ∷ xs) =
     (x, filter (same x) xs) ∷ filter (λ g. not (same x g.0)) (grouped same xs)
     flow_uniq/Grouped compare_by fields r s =
-    slice_cmp (slice_cmp nat_cmp) (map (in_field r) fields) (map (in_field s) fields)
+    slice_cmp compare_parts (key_of label fields r) (key_of label fields s)
     flow_uniq/Grouped row_groups fields sorted rows =
     let groups = grouped (λ r s. is_eq (compare_by fields r s)) rows in
     if sorted then in_order (λ g h. is_lt (compare_by fields g.0 h.0)) groups else groups
     """
     if len(rows) < SHORT:
         return plain(label, fields, is_sorted, rows)
-    in_field = definitions.function("flow_uniq/Grouped", "in_field")
+    part, numbers = (definitions.function("flow_uniq/Key", name) for name in ("key_part", "part_numbers"))
     table = {}
     for row in rows:
-        table.setdefault(tuple(tuple(in_field(label, row, field)) for field in fields), []).append(row)
+        table.setdefault(tuple(tuple(numbers(part(label, row, field))) for field in fields), []).append(row)
     found = (table[key] for key in (sorted(table) if is_sorted else table))
     return tuple(pair(rows[0], tuple(rows[1:])) for rows in found)
 

@@ -221,7 +221,8 @@ class Quick(Evaluating):
         labels = self.kit.NONE, self.kit.some((65,)), self.kit.some(())
         row = lambda: self.kit.Record(f_version=made("prefix_keys/Block.V4"), f_src=rng.randrange(3), f_sport=rng.randrange(4))
         self.compare(("flow_uniq/Grouped", "row_groups"), lambda address: labels[address.f_1],
-                     tuple(made(f"flow_uniq/Grouped.{name}") for name in ("SourcePort", "SourceLabel")), is_sorted,
+                     (made("flow_uniq/Key.Number")(made("flow_rows/Numbers.SourcePort")), made("flow_uniq/Key.SourceLabel")),
+                     is_sorted,
                      tuple(row() for _ in range(150)))
 
     @rows((lambda a, b: a < b,), (lambda a, b: a <= b,), (lambda a, b: a // 4 < b // 4,))

@@ -337,8 +337,8 @@ CALLS = (
     Call("next_message", (ONE_FLOW,), MESSAGE, "NoMemory at 0;Failed at 0;"),
     Call("next_message again", (ONE_FLOW * 2,), MESSAGE, "NoMemory at 0;Failed at 0;"),
     # flow_filter
-    Call("Filter::read", (TWO_FLOWS, "--protocol", "17"), "false;true;", "Protocol: NoMemory;"),
-    Call("Filter::read", (TWO_FLOWS, "--protocol", "10-16"), "false;false;", "Protocol: NoMemory;"),
+    Call("Filter::read", (TWO_FLOWS, "--protocol", "17"), "false;true;", "Number(Protocol): NoMemory;"),
+    Call("Filter::read", (TWO_FLOWS, "--protocol", "10-16"), "false;false;", "Number(Protocol): NoMemory;"),
     Call("Filter::read", (TWO_FLOWS, "--saddress", "::ffff:a00:0/104"), "true;false;", "SourceAddress: NoMemory;"),
     # No command has an option of labels without a map.
     Call("Filter::read", (TWO_FLOWS, "--any-label", "B"), "false;false;", "AnyLabel: NoMemory;"),

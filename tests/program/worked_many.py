@@ -40,6 +40,20 @@ HOURS = timed(flow(HOUR, 1, 80), flow(QUARTER - 1, 1, 10), flow(QUARTER, 1, 20),
 # A message in which a row starts too late and a set is skipped, and greatest numbers of a header.
 LATE_AND_BARE = message(TIMED, data_set(257, flow(LAST + 1)), data_set(256, RECORD)).hex()
 HEADERS = "000a0010 65000000 00000007 00000009 000a0010 ffffffff ffffffff ffffffff"
+# Flows with interfaces (in 4 and 2 bytes), VLANs and AS numbers, one with a reverse direction, and one with a VLAN in
+# element 243. The elements of the last File have 5 and 3 bytes, so that they aren't used.
+NUMBERED = message(
+    "0002002c 01020009 00080004 000c0004 00020004 00010004 000a0004 000e0002 003a0002 00100004 00110004",
+    data_set(258, "0a000001 08080808 00000003 000000b4 00000003 ffff 0064 0000fde8 fa56ea00",
+             "0a000002 08080808 00000001 00000028 00010003 0004 0000 0000fde7 00000003",
+             "0a000003 08080808 00000002 00000064 00000003 0004 0064 ffffffff 00000000")).hex()
+TAGGED = message("0002001c 01030005 00080004 000c0004 00020004 00010004 00f30002",
+                 data_set(259, "0a000004 08080808 00000007 00000007 0064")).hex()
+BOTH_WAYS = message(
+    "00020030 01040009 00080004 000c0004 00020004 00010004 000a0004 000e0004 00100004 00110004 80020004 00007279",
+    data_set(260, "0a000001 08080808 00000003 000000b4 00000001 00000002 00000003 00000004 00000005")).hex()
+TOO_LONG = message("00020020 01050006 00080004 000c0004 00020004 00010004 000a0005 003a0003",
+                   data_set(261, "0a000001 08080808 00000003 000000b4 0000000003 000064")).hex()
 # A record of a protocol alone, which is no row, and biflows whose second row, or both, have no bytes.
 NO_ROW = message("0002000c 01030001 00040001", data_set(259, "06")).hex()
 EMPTY_ANSWER = BIFLOW.removesuffix("00000064") + "00000000"
@@ -149,6 +163,32 @@ TABLE = (
            "src-label|records|packets|bytes;         |      1|      1|  100;        A|      2|      6|  360;"),
           ("messages six a", 0, f"{TITLES}1|1|0|1|0|1610612736|1|0|1|0|1|1;2|{AS_FIRST}"),
       )),
+    # Interfaces, VLANs and AS numbers, as fields and filters.
+    ({"n": NUMBERED, "t": TAGGED, "b": BOTH_WAYS, "l": TOO_LONG, "a": ONE_FLOW}, (
+        ("sum --fields in-if n", 0, f"in-if|{SUMS}3|2|5|280;65539|1|1|40;"),
+        ("sum --fields out-if n", 0, f"out-if|{SUMS}4|2|3|140;65535|1|3|180;"),
+        ("sum --fields vlan n t a", 0, f"vlan|{SUMS}0|2|4|220;100|3|12|287;"),
+        ("sum --fields src-as n", 0, f"src-as|{SUMS}64999|1|1|40;65000|1|3|180;4294967295|1|2|100;"),
+        ("sum --fields dst-as n", 0, f"dst-as|{SUMS}0|1|2|100;3|1|1|40;4200000000|1|3|180;"),
+        ("sum --by day --fields vlan,in-if,out-if n", 0,
+         f"day|vlan|in-if|out-if|{SUMS}0|0|65539|4|1|1|40;0|100|3|4|1|2|100;0|100|3|65535|1|3|180;"),
+        ("sum --fields in-if,out-if,src-as,dst-as b", 0,
+         f"in-if|out-if|src-as|dst-as|{SUMS}1|2|3|4|1|3|180;2|1|4|3|1|5|0;"),
+        ("sum --fields in-if,vlan l", 0, f"in-if|vlan|{SUMS}0|0|1|3|180;"),
+        ("sum --fields sip --vlan 100 n t a", 0, f"sip|{SUMS}10.0.0.1|1|3|180;10.0.0.3|1|2|100;10.0.0.4|1|7|7;"),
+        ("sum --fields sip --in-if 65536-70000 n", 0, f"sip|{SUMS}10.0.0.2|1|1|40;"),
+        ("sum --fields sip --out-if 4 --in-if 3 n", 0, f"sip|{SUMS}10.0.0.3|1|2|100;"),
+        ("sum --fields sip --src-as 4294967295,64999 n", 0, f"sip|{SUMS}10.0.0.2|1|1|40;10.0.0.3|1|2|100;"),
+        ("sum --fields sip --dst-as 0-3 n", 0, f"sip|{SUMS}10.0.0.2|1|1|40;10.0.0.3|1|2|100;"),
+        ("sum --fields vlan,sip,vlan n", 2, usage("--fields U2 FieldRepeated")),
+        ("sum --fields vlans n", 2, usage("--fields U1 BadField")),
+        ("sum --fields sip --src-as 4294967296 n", 2, usage("--src-as L1 BadNumberList")),
+        ("sum --fields sip --dst-as AS3 n", 2, usage("--dst-as L1 BadNumberList")),
+        ("sum --fields sip --vlan 65536 n", 2, usage("--vlan L1 BadNumberList")),
+        ("sum --fields sip --in-if eth0 n", 2, usage("--in-if L1 BadNumberList")),
+        ("sum --fields sip --out-if 5- n", 2, usage("--out-if L1 BadNumberList")),
+        ("sum --fields sip --bytes x --in-if x n", 2, usage("--bytes L2 BadRange")),
+    )),
     # A File without messages.
     ({"a": ONE_FLOW, "empty": ""}, (
         ("sum --fields sip empty", 0, f"sip|{SUMS}"),

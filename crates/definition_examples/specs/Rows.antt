@@ -62,6 +62,11 @@ plain = record {
   dport = 0;
   protocol = 0;
   flags = 0;
+  in_if = 0;
+  out_if = 0;
+  vlan = 0;
+  src_as = 0;
+  dst_as = 0;
   packets = 0;
   octets = 0;
   start_ms = 0;
@@ -89,8 +94,7 @@ tcp_values =
 
 -- a flow of TCP from 10.0.0.0 to 198.51.100.228, which softflowd reported, and the way back
 abbrev pub tcp : RowView
-tcp = record {
-  version = V4;
+tcp = record plain {
   src = 0x0a00_0000;
   dst = 0xc633_64e4;
   sport = 1804;
@@ -104,8 +108,7 @@ tcp = record {
 }
 
 abbrev pub tcp_back : RowView
-tcp_back = record {
-  version = V4;
+tcp_back = record plain {
   src = 0xc633_64e4;
   dst = 0x0a00_0000;
   sport = 443;

@@ -23,10 +23,11 @@ ghost use Rattle.std.specs.String.{string_bytes};
 ghost use Rattle.std.specs.declared.alloc.Global.{Global};
 ghost use Rattle.std.specs.declared.string.String.{String};
 ghost use Rattle.flow_filter.specs.declared.fault.FilterFaultKind.TheVariants.{BadNumberList, BadBlock, BadRange};
+ghost use Rattle.flow_rows.specs.declared.number.Number.TheVariants.{DestinationPort, Flags, Protocol, SourcePort};
 ghost use Rattle.flow_filter.specs.declared.option.FilterOption.TheVariants.{AnyLabel, Bytes, DestinationAddress};
-ghost use Rattle.flow_filter.specs.declared.option.FilterOption.TheVariants.{DestinationLabel, DestinationPort};
-ghost use Rattle.flow_filter.specs.declared.option.FilterOption.TheVariants.{Packets, Protocol, SourceAddress};
-ghost use Rattle.flow_filter.specs.declared.option.FilterOption.TheVariants.{SourceLabel, SourcePort};
+ghost use Rattle.flow_filter.specs.declared.option.FilterOption.TheVariants.{DestinationLabel, Number};
+ghost use Rattle.flow_filter.specs.declared.option.FilterOption.TheVariants.{Packets, SourceAddress};
+ghost use Rattle.flow_filter.specs.declared.option.FilterOption.TheVariants.{SourceLabel};
 ghost use Rattle.flow_uniq.specs.declared.fault.KeyFault.TheVariants.{BadField, FieldRepeated};
 ghost use Rattle.flow_uniq.specs.declared.fault.KeyFault.TheVariants.{NoMemory as NoMemoryForKeys};
 ghost use Rattle.flow_uniq.specs.declared.field.KeyField.TheVariants as field;
@@ -210,7 +211,8 @@ pub fn a_file_has_a_first_fault()
         (codes "F7 BadRecord at 48") }
     ensures of_rows { Reports (command.Rows None [] false day) (of_flows (take 105 one_flow))
         (codes "day.ipfix: F4 TruncatedMessage at 0") }
-    ensures of_uniq { Reports (command.Uniq (field.Flags ∷ []) None [] false false day) (of_flows (take 105 one_flow))
+    ensures of_uniq { Reports (command.Uniq (field.Number Flags ∷ []) None [] false false day)
+        (of_flows (take 105 one_flow))
         (codes "day.ipfix: F4 TruncatedMessage at 0") }
     ensures map_before_flows { Reports (command.Rows (Some by_map) [] false day)
         (record empty { map = codes "x\n"; flows = take 5 one_flow }) (codes "map.txt: M1 BadStatement at 1") }
@@ -218,12 +220,12 @@ pub fn a_file_has_a_first_fault()
 
 /// FORMATS.md has the flow under "Records of both directions", and the options under "Filters".
 pub fn rows_keeps_the_rows_that_meet_an_option()
-    ensures protocol { Keeps Protocol (codes "1,6") }
-    ensures other_protocol { Drops Protocol (codes "0-5,7-255") }
-    ensures source_port { Keeps SourcePort (codes "1804") }
-    ensures other_source_port { Drops SourcePort (codes "443") }
-    ensures destination_port { Keeps DestinationPort (codes "443-65535") }
-    ensures other_destination_port { Drops DestinationPort (codes "1804,444-65535") }
+    ensures protocol { Keeps (Number Protocol) (codes "1,6") }
+    ensures other_protocol { Drops (Number Protocol) (codes "0-5,7-255") }
+    ensures source_port { Keeps (Number SourcePort) (codes "1804") }
+    ensures other_source_port { Drops (Number SourcePort) (codes "443") }
+    ensures destination_port { Keeps (Number DestinationPort) (codes "443-65535") }
+    ensures other_destination_port { Drops (Number DestinationPort) (codes "1804,444-65535") }
     ensures source_address { Keeps SourceAddress (codes "10.0.0.0/8") }
     ensures other_source_address { Drops SourceAddress (codes "198.51.100.228") }
     ensures destination_address { Keeps DestinationAddress (codes "192.0.2.1,198.51.100.228") }
@@ -239,7 +241,7 @@ pub fn rows_keeps_the_rows_that_meet_an_option()
     ensures any_label { Keeps AnyLabel (codes "Out") }
     ensures other_label { Drops AnyLabel (codes "In,Out") }
     ensures one_option_of_two { Writes
-        (command.Rows (Some by_map) ((Protocol, codes "6") ∷ (Packets, codes "4") ∷ []) false day) labelled_flow
+        (command.Rows (Some by_map) ((Number Protocol, codes "6") ∷ (Packets, codes "4") ∷ []) false day) labelled_flow
         labelled_header }
 {}
 
@@ -267,19 +269,19 @@ pub fn uniq_prints_groups_by_their_fields()
     ensures source_address { Groups (field.SourceAddress ∷ []) (codes "sip|records|packets|bytes\n10.0.0.0|1|5|546\n") }
     ensures destination_address { Groups (field.DestinationAddress ∷ [])
         (codes "dip|records|packets|bytes\n198.51.100.228|1|5|546\n") }
-    ensures source_port { Groups (field.SourcePort ∷ []) (codes "sport|records|packets|bytes\n1804|1|5|546\n") }
-    ensures destination_port { Groups (field.DestinationPort ∷ [])
+    ensures source_port { Groups (field.Number SourcePort ∷ []) (codes "sport|records|packets|bytes\n1804|1|5|546\n") }
+    ensures destination_port { Groups (field.Number DestinationPort ∷ [])
         (codes "dport|records|packets|bytes\n443|1|5|546\n") }
-    ensures protocol { Groups (field.Protocol ∷ []) (codes "proto|records|packets|bytes\n6|1|5|546\n") }
-    ensures flags { Groups (field.Flags ∷ []) (codes "flags|records|packets|bytes\n27|1|5|546\n") }
+    ensures protocol { Groups (field.Number Protocol ∷ []) (codes "proto|records|packets|bytes\n6|1|5|546\n") }
+    ensures flags { Groups (field.Number Flags ∷ []) (codes "flags|records|packets|bytes\n27|1|5|546\n") }
     ensures source_label { Groups (field.SourceLabel ∷ []) (codes "src-label|records|packets|bytes\nIn|1|5|546\n") }
     ensures destination_label { Groups (field.DestinationLabel ∷ [])
         (codes "dst-label|records|packets|bytes\nOut|1|5|546\n") }
-    ensures two_fields { Groups (field.DestinationLabel ∷ field.Protocol ∷ [])
+    ensures two_fields { Groups (field.DestinationLabel ∷ field.Number Protocol ∷ [])
         (codes "dst-label|proto|records|packets|bytes\nOut|6|1|5|546\n") }
-    ensures no_rows { Writes (command.Uniq (field.Flags ∷ []) None [] true false day) empty
+    ensures no_rows { Writes (command.Uniq (field.Number Flags ∷ []) None [] true false day) empty
         (codes "flags|records|packets|bytes\n") }
-    ensures one_group { Writes (command.Uniq (field.Protocol ∷ []) None [] false false day) (of_flows both_ways)
+    ensures one_group { Writes (command.Uniq (field.Number Protocol ∷ []) None [] false false day) (of_flows both_ways)
         (codes "proto|records|packets|bytes\n6|2|5|280\n") }
     ensures as_they_come { Writes (command.Uniq (field.SourceAddress ∷ []) None [] false false day) (of_flows both_ways)
         (codes "sip|records|packets|bytes\n10.0.0.1|1|3|180\n8.8.8.8|1|2|100\n") }
@@ -321,7 +323,7 @@ pub fn a_run_reports_any_other_fault()
         ≡ (2, StandardError, codes "flowlabel: usage: P2 MapMissing\n") }
     ensures of_clap { (text : String Global)
         → seen (Err (Usage (usage.Refused text))) ≡ (2, StandardError, string_bytes text) }
-    ensures filter { seen (Err (Usage (usage.Filter (record { option = SourcePort; kind = BadNumberList }))))
+    ensures filter { seen (Err (Usage (usage.Filter (record { option = Number SourcePort; kind = BadNumberList }))))
         ≡ (2, StandardError, codes "flowlabel: usage: --sport L1 BadNumberList\n") }
     ensures key { seen (Err (Usage (usage.Key BadField)))
         ≡ (2, StandardError, codes "flowlabel: usage: --fields U1 BadField\n") }
@@ -380,7 +382,7 @@ pub fn a_command_line_asks_for_a_command()
     ensures rows_with_all_options { Asks
         (codes "flowlabel rows --protocol 6 --sport 1 --dport 2 --saddress 10.0.0.0/8 --daddress ::1 --packets 3- --bytes 4- --src-label A --dst-label B --any-label C --pmap m --columns day")
         (ask.rows (Some (FromMap (codes "m")))
-        ((Protocol, codes "6") ∷ (SourcePort, codes "1") ∷ (DestinationPort, codes "2")
+        ((Number Protocol, codes "6") ∷ (Number SourcePort, codes "1") ∷ (Number DestinationPort, codes "2")
         ∷ (SourceAddress, codes "10.0.0.0/8") ∷ (DestinationAddress, codes "::1") ∷ (Packets, codes "3-")
         ∷ (Bytes, codes "4-") ∷ (SourceLabel, codes "A") ∷ (DestinationLabel, codes "B") ∷ (AnyLabel, codes "C") ∷ [])
         true (codes "day")) }
@@ -389,13 +391,13 @@ pub fn a_command_line_asks_for_a_command()
     ensures uniq_by_all_fields { Asks
         (codes "flowlabel uniq --fields sip,dip,sport,dport,proto,flags,src-label,dst-label --list l day")
         (ask.uniq
-        (field.SourceAddress ∷ field.DestinationAddress ∷ field.SourcePort ∷ field.DestinationPort ∷ field.Protocol
-        ∷ field.Flags ∷ field.SourceLabel ∷ field.DestinationLabel ∷ [])
+        (field.SourceAddress ∷ field.DestinationAddress ∷ field.Number SourcePort ∷ field.Number DestinationPort
+        ∷ field.Number Protocol ∷ field.Number Flags ∷ field.SourceLabel ∷ field.DestinationLabel ∷ [])
         (Some (FromList (codes "l"))) [] false false (codes "day")) }
     ensures uniq_sorted { Asks (codes "flowlabel uniq --fields proto --bytes 5 --sort-output day")
-        (ask.uniq (field.Protocol ∷ []) None ((Bytes, codes "5") ∷ []) true false (codes "day")) }
+        (ask.uniq (field.Number Protocol ∷ []) None ((Bytes, codes "5") ∷ []) true false (codes "day")) }
     ensures uniq_in_columns { Asks (codes "flowlabel uniq --fields proto --columns day")
-        (ask.uniq (field.Protocol ∷ []) None [] false true (codes "day")) }
+        (ask.uniq (field.Number Protocol ∷ []) None [] false true (codes "day")) }
     ensures cat { Asks (codes "flowlabel cat --list l") (ask.cat (FromList (codes "l"))) }
     ensures shrink { Asks (codes "flowlabel shrink --pmap m") (ask.shrink (codes "m") shrunk.List) }
     ensures shrink_to_a_certificate { Asks (codes "flowlabel shrink --pmap m --certificate")
@@ -417,7 +419,7 @@ pub fn a_command_line_has_a_usage_fault()
     ensures two_sources_of_rows { HasUsageFault (codes "flowlabel rows --pmap m --list l --sport x day")
         usage.MapTwice }
     ensures a_malformed_option { HasUsageFault (codes "flowlabel rows --src-label A --sport x day")
-        (usage.Filter (record { option = SourcePort; kind = BadNumberList })) }
+        (usage.Filter (record { option = Number SourcePort; kind = BadNumberList })) }
     ensures a_source_label_without_a_map { HasUsageFault (codes "flowlabel rows --src-label A day")
         usage.LabelNeedsMap }
     ensures a_destination_label_without_a_map { HasUsageFault (codes "flowlabel rows --dst-label A day")
@@ -428,6 +430,7 @@ pub fn a_command_line_has_a_usage_fault()
     ensures a_malformed_option_before_a_field { HasUsageFault (codes "flowlabel uniq --fields x --bytes 5,6 day")
         (usage.Filter (record { option = Bytes; kind = BadRange })) }
     ensures an_unknown_field { HasUsageFault (codes "flowlabel uniq --fields src-label,x day") (usage.Key BadField) }
+    ensures a_field_of_flowlabel_many { HasUsageFault (codes "flowlabel uniq --fields vlan day") (usage.Key BadField) }
     ensures a_field_twice { HasUsageFault (codes "flowlabel uniq --fields src-label,src-label day")
         (usage.Key FieldRepeated) }
     ensures a_field_of_source_labels { HasUsageFault (codes "flowlabel uniq --fields src-label day")
@@ -445,6 +448,7 @@ pub fn clap_refuses_other_words()
     ensures help_is_an_option { is_refused (codes "flowlabel help") ≡ true }
     ensures another_command { is_refused (codes "flowlabel lable") ≡ true }
     ensures another_option { is_refused (codes "flowlabel cat --map m") ≡ true }
+    ensures an_option_of_flowlabel_many { is_refused (codes "flowlabel rows --vlan 5 day") ≡ true }
     ensures no_address { is_refused (codes "flowlabel label --pmap m") ≡ true }
     ensures two_addresses { is_refused (codes "flowlabel label --pmap m 10.0.0.1 10.0.0.2") ≡ true }
     ensures no_file_for_info { is_refused (codes "flowlabel info") ≡ true }

@@ -7,8 +7,9 @@ ghost use Rattle.definition_examples.specs.Rows.{tcp, tcp_back};
 ghost use Rattle.flow_uniq.specs.Grouped.{compare_by, grouped};
 ghost use Rattle.flow_uniq.specs.Key.{fields_need_labels};
 ghost use Rattle.flow_uniq.specs.declared.fault.KeyFault.TheVariants.{BadField, FieldRepeated};
-ghost use Rattle.flow_uniq.specs.declared.field.KeyField.TheVariants.{Flags, Protocol, SourceAddress};
-ghost use Rattle.flow_uniq.specs.declared.field.KeyField.TheVariants.{SourceLabel, SourcePort};
+ghost use Rattle.flow_rows.specs.declared.number.Number.TheVariants.{Flags, Protocol, SourcePort};
+ghost use Rattle.flow_uniq.specs.declared.field.KeyField.TheVariants.{Number, SourceAddress};
+ghost use Rattle.flow_uniq.specs.declared.field.KeyField.TheVariants.{SourceLabel};
 ghost use Rattle.label_lookup.specs.Labelling.{label_where};
 ghost use Rattle.prefix_keys.specs.declared.version.Version.TheVariants.{V6};
 ghost use Rattle.std.specs.Prelude.{◌≡◌, ◌==◌, ◌/◌, ◌∷◌, [], codes, Err, false, Ok, true};
@@ -214,7 +215,7 @@ pub fn u1_and_u2()
     ensures a_label_twice { uniq (codes "src-label,src-label") false unlabelled [] ≡ Err FieldRepeated }
     ensures a_blank_between { uniq (codes "sip dip") false unlabelled [] ≡ Err BadField }
     ensures one_label_of_two_fields { fields_need_labels (SourceAddress ∷ SourceLabel ∷ []) ≡ true }
-    ensures no_label { fields_need_labels (SourceAddress ∷ Flags ∷ []) ≡ false }
+    ensures no_label { fields_need_labels (SourceAddress ∷ Number Flags ∷ []) ≡ false }
 {}
 
 /// A group has all items that are the same as its first item. Groups are in the order of their first items.
@@ -227,10 +228,12 @@ pub fn items_that_are_the_same_are_a_group()
 
 /// Rows compare by the first field that differs.
 pub fn rows_compare_by_their_fields()
-    ensures same { compare_by (label_where unlabelled) (Protocol ∷ []) tcp tcp_back ≡ Equal }
-    ensures by_the_second_field { compare_by (label_where unlabelled) (Protocol ∷ SourcePort ∷ []) tcp tcp_back
+    ensures same { compare_by (label_where unlabelled) (Number Protocol ∷ []) tcp tcp_back ≡ Equal }
+    ensures by_the_second_field { compare_by
+        (label_where unlabelled) (Number Protocol ∷ Number SourcePort ∷ []) tcp tcp_back
         ≡ Greater }
-    ensures by_the_first_field { compare_by (label_where unlabelled) (SourceAddress ∷ SourcePort ∷ []) tcp tcp_back
+    ensures by_the_first_field { compare_by
+        (label_where unlabelled) (SourceAddress ∷ Number SourcePort ∷ []) tcp tcp_back
         ≡ Less }
     ensures by_nothing { compare_by (label_where unlabelled) [] tcp tcp_back ≡ Equal }
     ensures ipv4_first { compare_by (label_where unlabelled) (SourceAddress ∷ []) tcp

@@ -27,6 +27,14 @@ pub fn a_number_has_its_element()
     ensures the_order_of_fields_is_free { rows_of
         (value 11 (codes "0050") ∷ value 12 (codes "0a000002") ∷ value 8 (codes "0a000001") ∷ [])
         ≡ record plain { dport = 80 } ∷ [] }
+    ensures interfaces { rows_with (value 10 (codes "00010003") ∷ value 14 (codes "ffffffff") ∷ [])
+        ≡ record plain { in_if = 65539; out_if = 4294967295 } ∷ [] }
+    ensures vlan { rows_with (value 58 (codes "0064") ∷ []) ≡ record plain { vlan = 100 } ∷ [] }
+    ensures vlan_of_a_tag { rows_with (value 243 (codes "0fff") ∷ []) ≡ record plain { vlan = 4095 } ∷ [] }
+    ensures both_vlans { rows_with (value 243 (codes "0065") ∷ value 58 (codes "0064") ∷ [])
+        ≡ record plain { vlan = 100 } ∷ [] }
+    ensures as_numbers { rows_with (value 16 (codes "0000fde8") ∷ value 17 (codes "fa56ea00") ∷ [])
+        ≡ record plain { src_as = 65000; dst_as = 4200000000 } ∷ [] }
     ensures another_element { rows_with (value 3 (codes "00000005") ∷ []) ≡ plain ∷ [] }
 {}
 
@@ -49,6 +57,10 @@ pub fn a_number_may_be_sent_in_fewer_bytes()
         ≡ record plain { octets = 281474976710656 } ∷ [] }
     ensures total_packets_in_six_bytes { rows_with (value 86 (codes "010203040506") ∷ [])
         ≡ record plain { packets = 1108152157446 } ∷ [] }
+    ensures an_interface_in_one_byte { rows_with (value 10 (codes "07") ∷ []) ≡ record plain { in_if = 7 } ∷ [] }
+    ensures an_interface_in_three_bytes { rows_with (value 14 (codes "010000") ∷ [])
+        ≡ record plain { out_if = 65536 } ∷ [] }
+    ensures an_as_in_two_bytes { rows_with (value 16 (codes "fde8") ∷ []) ≡ record plain { src_as = 65000 } ∷ [] }
     ensures three_bytes_have_no_sign { rows_with (value 2 (codes "ff0000") ∷ [])
         ≡ record plain { packets = 16711680 } ∷ [] }
 {}
@@ -56,6 +68,9 @@ pub fn a_number_may_be_sent_in_fewer_bytes()
 /// FORMATS.md, "Rows of a File": the column of lengths.
 pub fn fields_of_other_lengths_are_not_used()
     ensures a_port_of_three_bytes { rows_with (value 7 (codes "000050") ∷ []) ≡ plain ∷ [] }
+    ensures an_interface_of_five_bytes { rows_with (value 10 (codes "0000000003") ∷ []) ≡ plain ∷ [] }
+    ensures a_vlan_of_three_bytes { rows_with (value 58 (codes "000064") ∷ []) ≡ plain ∷ [] }
+    ensures an_as_of_eight_bytes { rows_with (value 17 (codes "000000000000fde8") ∷ []) ≡ plain ∷ [] }
     ensures a_port_of_no_byte { rows_with (value 7 (codes "") ∷ []) ≡ plain ∷ [] }
     ensures a_protocol_of_two_bytes { rows_with (value 4 (codes "0006") ∷ []) ≡ plain ∷ [] }
     ensures flags_of_four_bytes { rows_with (value 6 (codes "0000001b") ∷ []) ≡ plain ∷ [] }
@@ -143,6 +158,15 @@ pub fn a_record_of_both_directions_has_two_rows()
     ensures ports_are_swapped { rows_with
         (value 7 (codes "0050") ∷ value 11 (codes "0051") ∷ reverse 2 (codes "02") ∷ [])
         ≡ record plain { sport = 80; dport = 81 } ∷ record plain_back { sport = 81; dport = 80 } ∷ [] }
+    ensures interfaces_are_swapped { rows_with
+        (value 10 (codes "03") ∷ value 14 (codes "04") ∷ reverse 2 (codes "02") ∷ [])
+        ≡ record plain { in_if = 3; out_if = 4 } ∷ record plain_back { in_if = 4; out_if = 3 } ∷ [] }
+    ensures as_numbers_are_swapped { rows_with
+        (value 16 (codes "05") ∷ value 17 (codes "06") ∷ reverse 2 (codes "02") ∷ [])
+        ≡ record plain { src_as = 5; dst_as = 6 } ∷ record plain_back { src_as = 6; dst_as = 5 } ∷ [] }
+    ensures the_vlan_is_that_of_the_first { rows_with
+        (value 58 (codes "64") ∷ reverse 58 (codes "65") ∷ reverse 2 (codes "02") ∷ [])
+        ≡ record plain { vlan = 100 } ∷ record plain_back { vlan = 100 } ∷ [] }
     ensures reverse_ports_are_not_used { rows_with
         (value 7 (codes "0050") ∷ reverse 7 (codes "0052") ∷ reverse 2 (codes "02") ∷ [])
         ≡ record plain { sport = 80 } ∷ record plain_back { dport = 80 } ∷ [] }

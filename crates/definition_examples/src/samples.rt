@@ -3,19 +3,19 @@
 #![tactic(auto, unfolding(crate::specs::Files::opened))]
 
 ghost use Rattle.definition_examples.specs.Files.{of_messages};
+ghost use Rattle.definition_examples.specs.Rows.{plain};
 ghost use Rattle.definition_examples.specs.Samples.{ends_of, pmacctd, softflowd};
 ghost use Rattle.definition_examples.specs.Samples.{softflowd_biflow, softflowd_milli, summary};
 ghost use Rattle.flow_rows.specs.Counts.{counts_of, rows_of_messages};
 ghost use Rattle.ipfix_read.specs.Messages.{file_reading};
-ghost use Rattle.prefix_keys.specs.declared.version.Version.TheVariants.{V4, V6};
+ghost use Rattle.prefix_keys.specs.declared.version.Version.TheVariants.{V6};
 ghost use Rattle.std.specs.Prelude.{◌≡◌, ◌∷◌, [], Ok};
 
 /// softflowd.ipfix: 942 packets. Its times are those of other elements, so no row has a time.
 pub fn a_file_of_softflowd()
     ensures { of_messages summary (file_reading softflowd) ≡ Ok (
       9 ∷ 4 ∷ 1 ∷ 0 ∷ 59 ∷ 0 ∷ 210 ∷ 1 ∷ 210 ∷ [],
-      record {
-        version = V4;
+      record plain {
         src = 0x0a00_d9b6;
         dst = 0x3e7a_3fe6;
         sport = 19014;
@@ -27,8 +27,7 @@ pub fn a_file_of_softflowd()
         start_ms = 0;
         end_ms = 0;
       }
-          ∷ record {
-            version = V4;
+          ∷ record plain {
             src = 0x0a02_dc2a;
             dst = 0xd428_2ce4;
             sport = 55755;
@@ -49,8 +48,7 @@ pub fn a_file_of_softflowd()
 pub fn a_file_with_times()
     ensures { of_messages summary (file_reading softflowd_milli) ≡ Ok (
       10 ∷ 4 ∷ 1 ∷ 0 ∷ 61 ∷ 0 ∷ 210 ∷ 1 ∷ 210 ∷ [],
-      record {
-        version = V4;
+      record plain {
         src = 0x0a00_d9b6;
         dst = 0x3e7a_3fe6;
         sport = 19014;
@@ -62,8 +60,7 @@ pub fn a_file_with_times()
         start_ms = 1700000148638;
         end_ms = 1700000148665;
       }
-          ∷ record {
-            version = V4;
+          ∷ record plain {
             src = 0x0a02_dc2a;
             dst = 0xd428_2ce4;
             sport = 55755;
@@ -84,7 +81,7 @@ pub fn a_file_with_times()
 pub fn a_file_with_both_directions()
     ensures { of_messages summary (file_reading softflowd_biflow) ≡ Ok (
       2 ∷ 4 ∷ 1 ∷ 0 ∷ 12 ∷ 0 ∷ 21 ∷ 1 ∷ 41 ∷ [],
-      record {
+      record plain {
         version = V6;
         src = 0x2001_0db8_0000_0000_0000_0000_0000_0000;
         dst = 0x2001_0db8_ffff_0000_0000_0000_0000_00a9;
@@ -97,8 +94,7 @@ pub fn a_file_with_both_directions()
         start_ms = 1700000019980;
         end_ms = 1700000019999;
       }
-          ∷ record {
-            version = V4;
+          ∷ record plain {
             src = 0xc633_6438;
             dst = 0x0a00_0000;
             sport = 80;
@@ -123,8 +119,7 @@ pub fn a_file_of_pmacctd()
 /// The rows of pmacctd.ipfix.
 pub fn rows_of_pmacctd()
     ensures { of_messages (λ messages. ends_of (rows_of_messages messages)) (file_reading pmacctd) ≡ Ok (
-      record {
-        version = V4;
+      record plain {
         src = 0x971c_00dd;
         dst = 0x0a02_ea14;
         sport = 49505;
@@ -136,8 +131,7 @@ pub fn rows_of_pmacctd()
         start_ms = 1700000038271;
         end_ms = 1700000038271;
       }
-          ∷ record {
-            version = V4;
+          ∷ record plain {
             src = 0x3412_9271;
             dst = 0x0a03_8964;
             sport = 0;

@@ -5,7 +5,8 @@ ghost use Rattle.definition_examples.specs.Reports.{unlabelled};
 ghost use Rattle.definition_examples.specs.Rows.{tcp, tcp_back};
 ghost use Rattle.definition_examples.specs.Times.{by_time, days, hours, minutes, quarters, start_text};
 ghost use Rattle.flow_uniq.specs.Times.{minutes_unit};
-ghost use Rattle.flow_uniq.specs.declared.field.KeyField.TheVariants.{Protocol};
+ghost use Rattle.flow_uniq.specs.declared.field.KeyField.TheVariants.{Number};
+ghost use Rattle.flow_rows.specs.declared.number.Number.TheVariants.{Protocol};
 ghost use Rattle.flow_uniq.specs.declared.field.Precision.TheVariants.{Minute};
 ghost use Rattle.std.specs.Prelude.{◌≡◌, ◌∷◌, [], codes, false, None, Some, true};
 ghost use Rattle.utc_text.specs.Texts.{day_text, hour_text, is_leap, minute_text};
@@ -79,7 +80,7 @@ pub fn rows_are_grouped_by_time()
         ≡ codes "day|records|packets|bytes\n0|1|5|546\n1970-01-01|1|5|546\n1970-01-02|2|10|1092\n" }
     ensures by_hour { by_time hours ([]) unlabelled (record tcp { start_ms = 7_200_000 } ∷ [])
         ≡ codes "hour|records|packets|bytes\n1970-01-01T02Z|1|5|546\n" }
-    ensures by_quarters_and_protocol { by_time quarters (Protocol ∷ []) unlabelled
+    ensures by_quarters_and_protocol { by_time quarters (Number Protocol ∷ []) unlabelled
         (record tcp { start_ms = 900_000; protocol = 17 } ∷ record tcp { start_ms = 1_799_999 }
         ∷ record tcp_back { start_ms = 1_000_000 } ∷ [])
         ≡ codes "minute|proto|records|packets|bytes\n1970-01-01T00:15Z|6|2|7|626\n1970-01-01T00:15Z|17|1|5|546\n" }

@@ -1,36 +1,17 @@
 -- The table of groups by keys is that of the groups by fields.
-use Rattle.std.proofs.Common.{◌≡◌, ◌∙◌, Bool, List, [], ◌∷◌, ◌++◌, Option, None, Some, ap, map, refl}
+use Rattle.std.proofs.Common.{◌≡◌, ◌∙◌, Bool, List, [], ◌∷◌, ◌++◌, Option, ap, map, refl}
 use Rattle.std.specs.Prelude.{decimal, length, sum_by}
+use Rattle.std.proofs.lemmas.Simd.{map-map}
 use Rattle.label_lookup.specs.Labelling.{Labelling, label_where}
 use Rattle.flow_rows.specs.Elements.{RowView}
 use Rattle.flow_uniq.specs.declared.field.KeyField.{KeyField}
-use Rattle.flow_uniq.specs.declared.field.KeyField.TheVariants.{SourceAddress, DestinationAddress, SourcePort, DestinationPort, Protocol, Flags, SourceLabel, DestinationLabel, Start}
 use Rattle.flow_uniq.specs.Groups.{groups_of, shown_groups}
 use Rattle.flow_uniq.specs.Grouped.{group_with, row_groups}
-use Rattle.flow_uniq.specs.Key.{key_of, key_part}
+use Rattle.flow_uniq.specs.Key.{key_part}
 use Rattle.flow_uniq.proofs.RowGroups.{groups-rows}
 use Rattle.pmap_print.specs.Reports.{group_fields, group_titles, groups_text, part_text}
 use Rattle.pmap_print.specs.Table.{Line, table_text}
 use Rattle.flow_files.specs.Groups.{field_text, groups_table}
-
--- the line of a group has the texts of a row's fields
-text_of_field : (labels : Option Labelling) (row : RowView) (field : KeyField) → part_text (key_part (label_where labels) row field) ≡ field_text labels row field
-text_of_field labels row SourceAddress = refl
-text_of_field labels row DestinationAddress = refl
-text_of_field labels row SourcePort = refl
-text_of_field labels row DestinationPort = refl
-text_of_field labels row Protocol = refl
-text_of_field labels row Flags = refl
-text_of_field None row SourceLabel = refl
-text_of_field (Some l) row SourceLabel = refl
-text_of_field None row DestinationLabel = refl
-text_of_field (Some l) row DestinationLabel = refl
-text_of_field labels row (Start unit) = refl
-
-texts_of_fields : (labels : Option Labelling) (row : RowView) (fields : List KeyField)
-    → map part_text (key_of (label_where labels) fields row) ≡ map (field_text labels row) fields
-texts_of_fields labels row [] = refl
-texts_of_fields labels row (field ∷ fields) = λ i. text_of_field labels row field i ∷ texts_of_fields labels row fields i
 
 abbrev group_line : List KeyField → Option Labelling → RowView × List RowView → Line
 group_line fields labels g =
@@ -42,7 +23,7 @@ lines_of_groups : (fields : List KeyField) (labels : Option Labelling) (groups :
 lines_of_groups fields labels [] = refl
 lines_of_groups fields labels (group ∷ groups) =
     let g = group_with (label_where labels) fields group in
-    λ i. (texts_of_fields labels group.0 fields i ++ decimal g.totals.records ∷ decimal g.totals.packets ∷ decimal g.totals.octets ∷ [])
+    λ i. (map-map part_text (key_part (label_where labels) group.0) fields i ++ decimal g.totals.records ∷ decimal g.totals.packets ∷ decimal g.totals.octets ∷ [])
     ∷ lines_of_groups fields labels groups i
 
 -- the text of groups by keys is the table of groups by fields

@@ -5,10 +5,11 @@ use Rattle.std.specs.Result.{result_map_both}
 use Rattle.std.specs.Str.{bytes_eq}
 use Rattle.std.specs.declared.io.ErrorKind.TheVariants as io
 use Rattle.std.specs.declared.io.ErrorKind.{ErrorKind as IoErrorKind}
-use Rattle.flow_filter.specs.Condition.{Condition, filter_of}
+use Rattle.flow_filter.specs.Condition.{Condition, filter_among}
 use Rattle.flow_filter.specs.Options.{name_of}
+use Rattle.flow_filter.specs.declared.option.FilterOption.{FilterOption}
 use Rattle.flow_filter.specs.declared.option.TheConstants.{ALL_OPTIONS}
-use Rattle.flow_uniq.specs.Key.{keys_reading}
+use Rattle.flow_uniq.specs.Key.{all_fields, keys_among}
 use Rattle.flow_uniq.specs.declared.field.KeyField.{KeyField}
 use Rattle.clap.specs.Words.{App, Row, fault_of, first_of, subcommand_of}
 use Rattle.clap.specs.declared.error.kind.ErrorKind.{ErrorKind}
@@ -40,18 +41,21 @@ text_in_rows id entries = unwrap_or (first_of id entries) []
 abbrev pub is_given : Text → List Row → Bool
 is_given flag entries = bytes_eq (text_in_rows flag entries) (codes "true")
 
--- the condition of the texts of the filter options
-abbrev pub condition_in_rows : List Row → Result Condition UsageFault
-condition_in_rows entries =
+-- the condition of the texts of these filter options, and of those of `flowlabel`
+abbrev pub condition_among : List FilterOption → List Row → Result Condition UsageFault
+condition_among options entries =
     result_map_both (λ condition. condition) Filter
-    (filter_of (map (λ o. first_of (name_of o) entries) ALL_OPTIONS))
+    (filter_among options (map (λ o. first_of (name_of o) entries) options))
 
--- the fields that the text of `--fields` names
-abbrev pub fields_reading : Text → Result (List KeyField) UsageFault
-fields_reading names = result_map_both (λ fields. fields) Key (keys_reading names)
+abbrev pub condition_in_rows : List Row → Result Condition UsageFault
+condition_in_rows entries = condition_among ALL_OPTIONS entries
+
+-- the known fields that the text of `--fields` names, and those of `flowlabel`
+abbrev pub fields_reading : List KeyField → Text → Result (List KeyField) UsageFault
+fields_reading known names = result_map_both (λ fields. fields) Key (keys_among known names)
 
 abbrev pub fields_in_rows : List Row → Result (List KeyField) UsageFault
-fields_in_rows entries = fields_reading (text_in_rows (codes "fields") entries)
+fields_in_rows entries = fields_reading all_fields (text_in_rows (codes "fields") entries)
 
 -- the error asks for help or the version, and the error is a mistake in the words
 abbrev pub is_help : ErrorKind → Bool

@@ -1,18 +1,15 @@
 use Rattle.std.specs.Prelude.{◌∷◌, ◌++◌, [], Bool, List, Option, codes, decimal}
-use Rattle.std.specs.Prelude.{if◌then◌else◌, is_some, length, map, sum_by, unwrap_or}
-use Rattle.prefix_keys.specs.Print.{address_text}
+use Rattle.std.specs.Prelude.{if◌then◌else◌, is_some, length, map, sum_by}
 use Rattle.label_lookup.specs.Labelling.{Labelling, label_where}
 use Rattle.flow_rows.specs.Elements.{RowView}
+use Rattle.flow_rows.specs.declared.number.TheConstants.{NUMBERS}
 use Rattle.flow_uniq.specs.Grouped.{AreGrouped, row_groups}
-use Rattle.flow_uniq.specs.Key.{field_name}
-use Rattle.flow_uniq.specs.Times.{unit_start}
+use Rattle.flow_uniq.specs.Key.{field_name, key_part}
 use Rattle.flow_uniq.specs.declared.field.KeyField.{KeyField}
 use Rattle.flow_uniq.specs.declared.field.KeyField.TheVariants.{DestinationAddress, DestinationLabel}
-use Rattle.flow_uniq.specs.declared.field.KeyField.TheVariants.{DestinationPort, Flags, Protocol}
-use Rattle.flow_uniq.specs.declared.field.KeyField.TheVariants.{SourceAddress, SourceLabel, SourcePort, Start}
-use Rattle.pmap_print.specs.Reports.{group_titles}
+use Rattle.flow_uniq.specs.declared.field.KeyField.TheVariants.{Number, SourceAddress, SourceLabel}
+use Rattle.pmap_print.specs.Reports.{group_titles, part_text}
 use Rattle.pmap_print.specs.Table.{table_text}
-use Rattle.pmap_print.specs.Times.{time_text}
 use Rattle.flow_files.specs.Outcomes.{Outcome, Prints}
 use Rattle.flow_files.specs.Sources.{Text}
 
@@ -20,15 +17,7 @@ use Rattle.flow_files.specs.Sources.{Text}
 
 -- the text of what a row has in a field; that of a missing label is empty
 abbrev pub field_text : Option Labelling → RowView → KeyField → Text
-field_text labels row SourceAddress = address_text row.version row.src
-field_text labels row DestinationAddress = address_text row.version row.dst
-field_text labels row SourcePort = decimal row.sport
-field_text labels row DestinationPort = decimal row.dport
-field_text labels row Protocol = decimal row.protocol
-field_text labels row Flags = decimal row.flags
-field_text labels row SourceLabel = unwrap_or (label_where labels (row.version, row.src)) []
-field_text labels row DestinationLabel = unwrap_or (label_where labels (row.version, row.dst)) []
-field_text labels row (Start unit) = time_text unit.precision (unit_start unit row.start_ms)
+field_text labels row field = part_text (key_part (label_where labels) row field)
 
 -- the columns of a row, each with its title and its text; the last two are the labels of its addresses, if there is a
 -- labelling
@@ -36,9 +25,9 @@ abbrev pub row_columns : Option Labelling → RowView → List (Text × Text)
 row_columns labels row =
     let column : KeyField → Text × Text = λ field.
     (field_name field, field_text labels row field) in
-    column SourceAddress ∷ column DestinationAddress ∷ column SourcePort ∷ column DestinationPort
-    ∷ column Protocol ∷ column Flags
-    ∷ (codes "packets", decimal row.packets) ∷ (codes "bytes", decimal row.octets)
+    column SourceAddress ∷ column DestinationAddress
+    ∷ map (λ number. column (Number number)) NUMBERS
+    ++ (codes "packets", decimal row.packets) ∷ (codes "bytes", decimal row.octets)
     ∷ (codes "stime", decimal row.start_ms) ∷ (codes "etime", decimal row.end_ms)
     ∷ (if is_some labels then column SourceLabel ∷ column DestinationLabel ∷ [] else [])
 

@@ -45,7 +45,7 @@ pub const SOURCES: [Argument<'static>; 2] = arguments! {
     Optional "list" "FILE" "Labels" "The prefix list";
 };
 
-/// The options for filters.
+/// The options for filters that both programs have.
 pub const FILTERS: [Argument<'static>; 10] = arguments! {
     Optional "protocol" "NUMBERS" "Filters" "Flows of these protocols, such as 6,17 or 1-16";
     Optional "sport" "NUMBERS" "Filters" "Flows from these ports";

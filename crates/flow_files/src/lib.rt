@@ -44,5 +44,5 @@ pub use reading::{read, read_certificate, read_list, read_map};
 pub use usage::UsageFault;
 pub use words::{
     fault_of_error, filter_in, first_text, is_given, keys_in, labels_in, listed, needed_text,
-    read_keys, words_fault,
+    read_keys, whole_filter_in, words_fault,
 };

@@ -1,19 +1,21 @@
 //! Reads the options that programs over Files have.
 ghost use Rattle.std.specs.Prelude.{◌≡◌, IfOk, map, option_map};
 ghost use Rattle.std.specs.Vec.Iter.{into_iter_items};
-ghost use Rattle.flow_filter.specs.Filters.{option_texts};
+ghost use Rattle.flow_filter.specs.Filters.{option_texts, texts_given};
 ghost use Rattle.flow_filter.specs.Options.{name_of};
+ghost use Rattle.flow_filter.specs.declared.option.TheConstants.{ALL_OPTIONS, MANY_OPTIONS};
 ghost use Rattle.clap.specs.Words.{first_of, found_of, kind_of, rows_of};
 ghost use Rattle.flow_files.specs.Sources.{source_of};
-ghost use Rattle.flow_files.specs.Answer.{IsFaultOfKind, IsUnlessMemory, condition_in_rows, fields_in_rows};
-ghost use Rattle.flow_files.specs.Answer.{fields_reading, is_given, sources_in_rows, text_in_rows, words_fault_of};
+ghost use Rattle.flow_files.specs.Answer.{IsFaultOfKind, IsUnlessMemory, condition_among, condition_in_rows};
+ghost use Rattle.flow_files.specs.Answer.{fields_in_rows, fields_reading, is_given, sources_in_rows};
+ghost use Rattle.flow_files.specs.Answer.{text_in_rows, words_fault_of};
 
 use crate::label_file::LabelFile;
 use crate::usage::UsageFault;
 use clap::ArgMatches;
 use clap::error::ErrorKind;
-use flow_filter::{ALL_OPTIONS, Filter, FilterFaultKind, FilterWords};
-use flow_uniq::Keys;
+use flow_filter::{ALL_OPTIONS, Filter, FilterFaultKind, FilterWords, MANY_OPTIONS};
+use flow_uniq::{KeyField, Keys};
 use std::alloc::{AllocError, Global};
 use std::{env, io};
 
@@ -75,7 +77,14 @@ fn filter_words_in<'a>(entries: &ArgMatches<'a>) -> FilterWords<'a>
     }
 }
 
-/// Returns the filter of the options for filters.
+// Returns the texts of `MANY_OPTIONS`.
+fn texts_in<'a>(entries: &ArgMatches<'a>) -> [Option<&'a str>; 15]
+    ensures { texts_given result ≡ map (λ o. first_of (name_of o) (rows_of (found_of entries.now))) MANY_OPTIONS }
+{
+    MANY_OPTIONS.map(|option| first_text(entries, option.name()))
+}
+
+/// Returns the filter of the options for filters that both programs have.
 pub fn filter_in<'a>(alloc: Global, entries: &ArgMatches<'a>) -> Result<Filter<'a>, UsageFault>
     ensures { IsUnlessMemory (λ filter. filter) (condition_in_rows (rows_of (found_of entries.now))) result }
 {
@@ -86,18 +95,33 @@ pub fn filter_in<'a>(alloc: Global, entries: &ArgMatches<'a>) -> Result<Filter<'
     }
 }
 
-/// Returns the keys by the fields that the text of `--fields` names.
-pub fn read_keys(names: &str) -> Result<Keys, UsageFault>
-    ensures { IsUnlessMemory (λ keys. keys) (fields_reading names.now) result }
+/// Returns the filter of all options for filters.
+pub fn whole_filter_in<'a>(
+    alloc: Global,
+    entries: &ArgMatches<'a>,
+) -> Result<Filter<'a>, UsageFault>
+    ensures { IsUnlessMemory (λ filter. filter)
+        (condition_among MANY_OPTIONS (rows_of (found_of entries.now))) result }
 {
-    Keys::read(names).map_err(UsageFault::Key)
+    match Filter::read_among(alloc, &MANY_OPTIONS, &texts_in(entries)) {
+        Ok(filter) => Ok(filter),
+        Err(fault) if fault.kind == FilterFaultKind::NoMemory => Err(UsageFault::NoMemory),
+        Err(fault) => Err(UsageFault::Filter(fault)),
+    }
 }
 
-/// Returns the keys that `--fields` asks for.
+/// Returns the keys by the known fields that the text of `--fields` names.
+pub fn read_keys(known: &[KeyField], names: &str) -> Result<Keys, UsageFault>
+    ensures { IsUnlessMemory (λ keys. keys) (fields_reading known.now names.now) result }
+{
+    Keys::read_among(known, names).map_err(UsageFault::Key)
+}
+
+/// Returns the keys that `--fields` of `flowlabel` asks for.
 pub fn keys_in(entries: &ArgMatches<'_>) -> Result<Keys, UsageFault>
     ensures { IsUnlessMemory (λ keys. keys) (fields_in_rows (rows_of (found_of entries.now))) result }
 {
-    read_keys(needed_text(entries, "fields"))
+    Keys::read(needed_text(entries, "fields")).map_err(UsageFault::Key)
 }
 
 /// Returns the fault of a command line whose words can't be obtained, by the kind of the error: a word isn't UTF-8, or

@@ -3,16 +3,15 @@ use Rattle.std.proofs.Common.{◌≡◌, ◌∙◌, inl, inr, ℕ, zero, suc, �
 use Rattle.std.specs.Prelude.{find, is_none}
 use Rattle.std.specs.List.{list_any, slice_split}
 use Rattle.std.specs.Option.{option_map_or, option_to_list}
-use Rattle.std.proofs.lemmas.List.{append-nil}
+use Rattle.std.proofs.lemmas.List.{append-nil, drop_all}
 use Rattle.std.proofs.lemmas.List.Folds.{find-append}
 use Rattle.std.proofs.lemmas.List.Splits.{slice_split_none}
 use Rattle.std.proofs.lemmas.Option.{same_Some}
 use Rattle.prefix_keys.specs.Text.{AddressOf, all_some}
 use Rattle.flow_rows.specs.Elements.{RowView}
-use Rattle.flow_filter.specs.Condition.{Condition, Part, Range, RowTest, filter_of, given, in_range, is_malformed, item_test, meets_option, tests_of, unless_malformed}
+use Rattle.flow_filter.specs.Condition.{Condition, Part, Range, RowTest, filter_among, given, in_range, is_malformed, item_test, meets_option, tests_of, unless_malformed}
 use Rattle.flow_filter.specs.Filters.{IsFault, IsRefused, by_range, in_ranges, tested_number}
 use Rattle.flow_filter.specs.Options.{FilterFaultKind, FilterOption, is_list, is_on_labels, AnyLabel, DestinationLabel, SourceLabel}
-use Rattle.flow_filter.specs.declared.option.TheConstants.{ALL_OPTIONS}
 
 -- one more item that exists
 pub all_some-push : {X : Type 0} (os : List (Option X)) (xs : List X) (x : X) → all_some os ≡ Some xs
@@ -64,8 +63,8 @@ ranges_meet o text label row ranges is = ap (λ tests. option_map_or (list_any (
     one (r ∷ rs) = ap (λ b. in_range (tested_number o row) r || b) (one rs)
 
 -- the parts are the options before an index that are given, and none is malformed
-pub record AreRead (texts : List (Option (List ℕ))) (at : ℕ) (parts : Condition) : Type 0 where
-  pub split : given texts ALL_OPTIONS ≡ parts ++ given (drop at texts) (drop at ALL_OPTIONS)
+pub record AreRead (options : List FilterOption) (texts : List (Option (List ℕ))) (at : ℕ) (parts : Condition) : Type 0 where
+  pub split : given texts options ≡ parts ++ given (drop at texts) (drop at options)
   pub sound : find is_malformed parts ≡ None
 
 given_next : (texts : List (Option (List ℕ))) (os : List FilterOption) (at : ℕ) (o : FilterOption) → at < length os →
@@ -81,34 +80,35 @@ given_none : (texts : List (Option (List ℕ))) → given texts [] ≡ []
 given_none [] = refl
 given_none (text ∷ texts) = refl
 
-pub all_read : (texts : List (Option (List ℕ))) (at : ℕ) (parts : Condition) → at ≡ 10 → AreRead texts at parts → filter_of texts ≡ Ok parts
-all_read texts at parts end so_far =
-    let whole = so_far.split ∙ ap (λ n. parts ++ given (drop n texts) (drop n ALL_OPTIONS)) end ∙ ap (λ (rest : Condition). parts ++ rest) (given_none (drop 10 texts))
+pub all_read : (options : List FilterOption) (texts : List (Option (List ℕ))) (at : ℕ) (parts : Condition) → at ≡ length options → AreRead options texts at parts
+    → filter_among options texts ≡ Ok parts
+all_read options texts at parts end so_far =
+    let whole = so_far.split ∙ ap (λ os. parts ++ given (drop at texts) os) (drop_all at options (omega (arith, end))) ∙ ap (λ (rest : Condition). parts ++ rest) (given_none (drop at texts))
     ∙ append-nil parts in
     rw (whole, so_far.sound) refl
 
-module _ (texts : List (Option (List ℕ))) (at : ℕ) (parts : Condition) (o : FilterOption) (so_far : AreRead texts at parts) (within : at < 10) where
-  next : (text : Option (List ℕ)) → get_or texts at None ≡ text → given texts ALL_OPTIONS
-      ≡ parts ++ (option_to_list (option_map (λ t. (get_or ALL_OPTIONS at o, t)) text) ++ given (drop (at + 1) texts) (drop (at + 1) ALL_OPTIONS))
-  next text is = rw (add-one, ← is) (so_far.split ∙ ap (λ (rest : Condition). parts ++ rest) (given_next texts ALL_OPTIONS at o within))
+module _ (options : List FilterOption) (texts : List (Option (List ℕ))) (at : ℕ) (parts : Condition) (o : FilterOption) (so_far : AreRead options texts at parts) (within : at < length options) where
+  next : (text : Option (List ℕ)) → get_or texts at None ≡ text → given texts options
+      ≡ parts ++ (option_to_list (option_map (λ t. (get_or options at o, t)) text) ++ given (drop (at + 1) texts) (drop (at + 1) options))
+  next text is = rw (add-one, ← is) (so_far.split ∙ ap (λ (rest : Condition). parts ++ rest) (given_next texts options at o within))
 
-  pub none_more : get_or texts at None ≡ None → AreRead texts (at + 1) parts
+  pub none_more : get_or texts at None ≡ None → AreRead options texts (at + 1) parts
   none_more is = record { split = next None is; sound = so_far.sound }
 
   module _ (text : List ℕ) (is : get_or texts at None ≡ Some text) where
     abbrev part : Part
-    part = (get_or ALL_OPTIONS at o, text)
+    part = (get_or options at o, text)
 
-    pub one_more : is_malformed part ≡ false → AreRead texts (at + 1) (parts ++ part ∷ [])
+    pub one_more : is_malformed part ≡ false → AreRead options texts (at + 1) (parts ++ part ∷ [])
     one_more sound = record {
       split = next (Some text) is ∙ sym (append_assoc parts (part ∷ []) _);
       sound = find-append is_malformed parts (part ∷ []) ∙ rw (so_far.sound, sound) refl;
     }
 
-    pub is_fault : (kind : FilterFaultKind) → IsRefused part kind → IsFault texts (record { option = part.0; kind = kind })
-    is_fault kind (inl memory) = inl (memory, record { before = parts; text = text; after = given (drop (at + 1) texts) (drop (at + 1) ALL_OPTIONS); split = next (Some text) is; sound = so_far.sound })
+    pub is_fault : (kind : FilterFaultKind) → IsRefused part kind → IsFault options texts (record { option = part.0; kind = kind })
+    is_fault kind (inl memory) = inl (memory, record { before = parts; text = text; after = given (drop (at + 1) texts) (drop (at + 1) options); split = next (Some text) is; sound = so_far.sound })
     is_fault kind (inr (malformed, same)) =
-        let condition = given texts ALL_OPTIONS in
+        let condition = given texts options in
         let first : find is_malformed condition ≡ Some part =
         ap (find is_malformed) (next (Some text) is) ∙ find-append is_malformed parts _ ∙ rw (so_far.sound, malformed) refl in
         inr (rw same (ap (unless_malformed condition) first))

@@ -8,9 +8,10 @@ use Rattle.prefix_keys.specs.Conversion.{converted}
 use Rattle.prefix_keys.specs.Text.{AddressOf, BlockOf, all_some}
 use Rattle.label_lookup.specs.Labelling.{Labelling, label_where}
 use Rattle.flow_rows.specs.Elements.{RowView}
+use Rattle.flow_rows.specs.Numbers.{about}
 use Rattle.flow_filter.specs.Options.{FilterOption, is_list, is_on_labels, kind_of, AnyLabel}
-use Rattle.flow_filter.specs.Options.{Bytes, DestinationAddress, DestinationLabel, DestinationPort}
-use Rattle.flow_filter.specs.Options.{Packets, Protocol, SourceAddress, SourceLabel, SourcePort}
+use Rattle.flow_filter.specs.Options.{Bytes, DestinationAddress, DestinationLabel, Number}
+use Rattle.flow_filter.specs.Options.{Packets, SourceAddress, SourceLabel}
 use Rattle.flow_filter.specs.Texts.{address_item, number_range}
 pub use Rattle.flow_filter.specs.declared.fault.FilterFault.{FilterFault}
 use Rattle.flow_filter.specs.declared.option.TheConstants.{ALL_OPTIONS}
@@ -49,9 +50,7 @@ by_label address item label row = option_eq bytes_eq (label (row.version, addres
 
 -- the test that an item of an option's text states
 abbrev pub item_test : FilterOption → List ℕ → Option RowTest
-item_test Protocol item = by_number (λ row. row.protocol) false 255 item
-item_test SourcePort item = by_number (λ row. row.sport) false 65535 item
-item_test DestinationPort item = by_number (λ row. row.dport) false 65535 item
+item_test (Number n) item = by_number (about n).1.1 false (about n).1.0 item
 item_test SourceAddress item = by_address (λ row. row.src) item
 item_test DestinationAddress item = by_address (λ row. row.dst) item
 item_test Packets item = by_number (λ row. row.packets) true (2 ^ 64 - 1) item
@@ -105,13 +104,17 @@ abbrev pub unless_malformed : Condition → Option Part → Result Condition Fil
 unless_malformed condition None = Ok condition
 unless_malformed condition (Some part) = Err (fault_of part)
 
--- the condition that the texts of all options state, or the fault of the first that is malformed
-abbrev pub filter_of : List (Option (List ℕ)) → Result Condition FilterFault
-filter_of texts =
-    let condition = given texts ALL_OPTIONS in
+-- the condition that the texts of these options state, or the fault of the first that is malformed
+abbrev pub filter_among : List FilterOption → List (Option (List ℕ)) → Result Condition FilterFault
+filter_among options texts =
+    let condition = given texts options in
     unless_malformed condition (find is_malformed condition)
 
 -- Below: only contracts of parts and proofs use these; no promise of the program rests on them.
+
+-- the condition that the texts of the options of `flowlabel` state, or the fault of the first that is malformed
+abbrev pub filter_of : List (Option (List ℕ)) → Result Condition FilterFault
+filter_of texts = filter_among ALL_OPTIONS texts
 
 -- the row meets each option given, with these labels of addresses
 abbrev pub row_passes : Condition → (AddressOf → Option (List ℕ)) → RowView → Bool

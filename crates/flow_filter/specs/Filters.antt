@@ -1,5 +1,6 @@
 use Rattle.std.specs.Prelude.{◌≡◌, ◌⊎◌, ℕ, ◌+◌, ◌++◌, ◌∷◌, Bool, true, false}
 use Rattle.std.specs.Prelude.{List, Option, None, Err, find, map, option_map}
+use Rattle.std.specs.Borrow.{Bor}
 use Rattle.std.specs.List.{list_any}
 use Rattle.std.specs.List.Sorted.{IsNonDecreasingBy}
 use Rattle.prefix_keys.specs.Conversion.{mapped_prefix}
@@ -7,17 +8,20 @@ use Rattle.prefix_keys.specs.Text.{AddressOf, BlockOf}
 use Rattle.prefix_keys.specs.declared.block.Block.{Block}
 use Rattle.prefix_keys.specs.declared.version.Version.TheVariants.{V4, V6}
 use Rattle.flow_rows.specs.Elements.{RowView}
+use Rattle.flow_rows.specs.Numbers.{about}
 use Rattle.flow_filter.specs.Condition.{Condition, FilterFault, Part, Range, RowTest}
-use Rattle.flow_filter.specs.Condition.{filter_of, given, in_range, is_malformed, meets_option}
+use Rattle.flow_filter.specs.Condition.{filter_among, given, in_range, is_malformed, meets_option}
 use Rattle.flow_filter.specs.Options.{FilterFaultKind, FilterOption, is_on_labels, kind_of, Bytes, DestinationAddress}
-use Rattle.flow_filter.specs.Options.{DestinationPort, NoMemory, Packets, Protocol, SourceAddress, SourcePort}
-use Rattle.flow_filter.specs.declared.option.TheConstants.{ALL_OPTIONS}
+use Rattle.flow_filter.specs.Options.{NoMemory, Number, Packets, SourceAddress}
 use Rattle.flow_filter.specs.declared.filter.FilterWords.{FilterWords}
 
--- How filters are read and stored. Callers of the crate need only `option_texts` and `IsFault`.
+-- How filters are read and stored. Callers of the crate need only `option_texts`, `texts_given` and `IsFault`.
+
+abbrev pub texts_given : List (Option (Bor (List ℕ))) → List (Option (List ℕ))
+texts_given texts = map (option_map (λ s. s.now)) texts
 
 abbrev pub option_texts : FilterWords → List (Option (List ℕ))
-option_texts words = map (option_map (λ s. s.now)) words.texts
+option_texts words = texts_given words.texts
 
 -- the option is given, and no option before it has a malformed text
 pub record IsBeingRead (condition : Condition) (o : FilterOption) : Type 0 where
@@ -28,10 +32,10 @@ pub record IsBeingRead (condition : Condition) (o : FilterOption) : Type 0 where
   pub sound : find is_malformed before ≡ None
 
 -- an allocation failed while an option was read, or the fault is the first one of the texts
-abbrev pub IsFault : List (Option (List ℕ)) → FilterFault → Type 0
-IsFault texts fault =
-    ((fault.kind ≡ NoMemory) × IsBeingRead (given texts ALL_OPTIONS) fault.option)
-    ⊎ (filter_of texts ≡ Err fault)
+abbrev pub IsFault : List FilterOption → List (Option (List ℕ)) → FilterFault → Type 0
+IsFault options texts fault =
+    ((fault.kind ≡ NoMemory) × IsBeingRead (given texts options) fault.option)
+    ⊎ (filter_among options texts ≡ Err fault)
 
 -- the kind of the fault of a part
 abbrev pub IsRefused : Part → FilterFaultKind → Type 0
@@ -56,9 +60,7 @@ AreAscending ranges = IsNonDecreasingBy (λ range. range.low) ranges × IsNonDec
 
 -- the number of a row that the ranges of an option have
 abbrev pub tested_number : FilterOption → RowView → ℕ
-tested_number Protocol row = row.protocol
-tested_number SourcePort row = row.sport
-tested_number DestinationPort row = row.dport
+tested_number (Number number) row = (about number).1.1 row
 tested_number SourceAddress row = mapped_number (row.version, row.src)
 tested_number DestinationAddress row = mapped_number (row.version, row.dst)
 tested_number Packets row = row.packets

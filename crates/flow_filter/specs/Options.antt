@@ -4,17 +4,18 @@ pub use Rattle.flow_filter.specs.declared.fault.FilterFaultKind.TheVariants.{Bad
 pub use Rattle.flow_filter.specs.declared.fault.FilterFaultKind.TheVariants.{BadRange, NoMemory}
 pub use Rattle.flow_filter.specs.declared.option.FilterOption.{FilterOption}
 pub use Rattle.flow_filter.specs.declared.option.FilterOption.TheVariants.{AnyLabel, Bytes, DestinationAddress}
-pub use Rattle.flow_filter.specs.declared.option.FilterOption.TheVariants.{DestinationLabel, DestinationPort}
-pub use Rattle.flow_filter.specs.declared.option.FilterOption.TheVariants.{Packets, Protocol, SourceAddress}
-pub use Rattle.flow_filter.specs.declared.option.FilterOption.TheVariants.{SourceLabel, SourcePort}
+pub use Rattle.flow_filter.specs.declared.option.FilterOption.TheVariants.{DestinationLabel, Number}
+pub use Rattle.flow_filter.specs.declared.option.FilterOption.TheVariants.{Packets, SourceAddress}
+pub use Rattle.flow_filter.specs.declared.option.FilterOption.TheVariants.{SourceLabel}
+use Rattle.flow_rows.specs.declared.number.Number.TheVariants.{Protocol}
+use Rattle.flow_rows.specs.Numbers.{about}
 
 -- The options of filters.
 
 -- the name of an option
 abbrev pub name_of : FilterOption → List ℕ
-name_of Protocol = codes "protocol"
-name_of SourcePort = codes "sport"
-name_of DestinationPort = codes "dport"
+name_of (Number Protocol) = codes "protocol"
+name_of (Number number) = (about number).0
 name_of SourceAddress = codes "saddress"
 name_of DestinationAddress = codes "daddress"
 name_of Packets = codes "packets"

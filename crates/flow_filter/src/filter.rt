@@ -1,11 +1,12 @@
-ghost use Rattle.std.specs.Prelude.{◌≡◌, ◌++◌, ◌∷◌, [], IfErr, IfOk, Ok, OnOk, Some, false, true};
+ghost use Rattle.std.specs.Prelude.{◌≡◌, ◌++◌, ◌∷◌, [], IfErr, IfOk, Ok, OnOk, Some, false, length, true};
 ghost use Rattle.std.specs.Option.{option_eq};
 ghost use Rattle.std.specs.Str.{bytes_eq};
 ghost use Rattle.label_lookup.specs.Labelling.{label_where, labelling_borrowed};
-ghost use Rattle.flow_filter.specs.Condition.{filter_of, is_malformed, meets_option};
+ghost use Rattle.flow_filter.specs.Condition.{filter_among, filter_of, is_malformed, meets_option};
 ghost use Rattle.flow_filter.specs.Condition.{condition_needs_labels, row_passes};
-ghost use Rattle.flow_filter.specs.Filters.{IsFault, IsRefused, tested_number, option_texts};
+ghost use Rattle.flow_filter.specs.Filters.{IsFault, IsRefused, option_texts, tested_number, texts_given};
 ghost use Rattle.flow_filter.specs.Options.{is_on_labels};
+ghost use Rattle.flow_filter.specs.declared.option.TheConstants.{ALL_OPTIONS};
 
 use crate::fault::{FilterFault, FilterFaultKind};
 use crate::items::{mapped_number, read_ranges};
@@ -63,9 +64,7 @@ fn number_of(option: FilterOption, row: &Row<'_>) -> u128
     ensures { result ≡ tested_number option row.now }
 {
     match option {
-        FilterOption::Protocol => u128::from(row.protocol()),
-        FilterOption::SourcePort => u128::from(row.sport()),
-        FilterOption::DestinationPort => u128::from(row.dport()),
+        FilterOption::Number(number) => u128::from(row.number(number)),
         FilterOption::SourceAddress => mapped_number(row.src()),
         FilterOption::DestinationAddress => mapped_number(row.dst()),
         FilterOption::Packets => u128::from(row.packets()),
@@ -144,11 +143,28 @@ impl<'a> Filter<'a> {
     /// `NoMemory` with the option that was being read.
     pub fn read(alloc: Global, words: &FilterWords<'a>) -> Result<Filter<'a>, FilterFault>
         ensures ok { IfOk result (λ filter. filter_of (option_texts words.now) ≡ Ok filter) }
-        ensures err { IfErr result (λ fault. IsFault (option_texts words.now) fault) }
+        ensures err { IfErr result (IsFault ALL_OPTIONS (option_texts words.now)) }
+    {
+        Filter::read_among(alloc, &ALL_OPTIONS, &words.texts)
+    }
+
+    /// Reads the conditions from the texts of these options, such as those of `MANY_OPTIONS`.
+    ///
+    /// # Errors
+    ///
+    /// As [`Filter::read`].
+    pub fn read_among(
+        alloc: Global,
+        options: &[FilterOption],
+        texts: &[Option<&'a str>],
+    ) -> Result<Filter<'a>, FilterFault>
+        requires { length options.now ≡ length texts.now }
+        ensures ok { IfOk result (λ filter. filter_among options.now (texts_given texts.now) ≡ Ok filter) }
+        ensures err { IfErr result (IsFault options.now (texts_given texts.now)) }
     {
         let mut parts = Vec::new(alloc);
-        for (at, option) in ALL_OPTIONS.iter().enumerate() {
-            let Some(text) = words.texts[at] else {
+        for (at, option) in options.iter().enumerate() {
+            let Some(text) = texts[at] else {
                 continue;
             };
             if let Err(kind) = add_part(alloc, *option, text, &mut parts) {

@@ -72,8 +72,10 @@ fn read_item(option: FilterOption, item: &[u8]) -> Result<Range, FilterFaultKind
         ≡ ok_or (item_test option item.now) (kind_of option) }
 {
     match option {
-        FilterOption::Protocol => {
-            read_numbers(item, 255, false).ok_or(FilterFaultKind::BadNumberList)
+        FilterOption::Number(number) => {
+            read_numbers(item, u64::from(number.most()), false).ok_or(
+                FilterFaultKind::BadNumberList,
+            )
         }
         FilterOption::SourceAddress | FilterOption::DestinationAddress => {
             read_addresses(item).ok_or(FilterFaultKind::BadBlock)
@@ -81,7 +83,7 @@ fn read_item(option: FilterOption, item: &[u8]) -> Result<Range, FilterFaultKind
         FilterOption::Packets | FilterOption::Bytes => {
             read_numbers(item, u64::MAX, true).ok_or(FilterFaultKind::BadRange)
         }
-        _ => read_numbers(item, 65535, false).ok_or(FilterFaultKind::BadNumberList),
+        _ => Err(FilterFaultKind::BadNumberList),
     }
 }
 

@@ -2,10 +2,11 @@
 //!
 //! ```rust
 //! use flow_filter::{ALL_OPTIONS, Filter, FilterOption, FilterWords};
+//! use flow_rows::Number;
 //! use label_lookup::Scan;
 //!
 //! // `row` is a row of flow_rows.
-//! let protocols = |option| if option == FilterOption::Protocol { Some("6,17") } else { None };
+//! let protocols = |option| if option == FilterOption::Number(Number::Protocol) { Some("6,17") } else { None };
 //! let words = FilterWords { texts: ALL_OPTIONS.map(protocols) };
 //! let filter = Filter::read(alloc, &words).expect(&rt, "a filter");
 //! let passes = filter.passes(&row, None::<&Scan<'_>>);
@@ -30,4 +31,4 @@ mod ranges;
 pub use fault::{FilterFault, FilterFaultKind};
 pub use filter::{Filter, FilterWords};
 pub use laws::options_hold_together;
-pub use option::{ALL_OPTIONS, FilterOption};
+pub use option::{ALL_OPTIONS, FilterOption, MANY_OPTIONS};

@@ -1,14 +1,12 @@
 ghost use Rattle.std.specs.Prelude.{◌≡◌};
 
+use flow_rows::Number;
+
 /// An option that states a condition on rows.
 #[derive(Clone, Copy, Debug, PartialEq, Eq)]
 pub enum FilterOption {
-    /// `--protocol`: numbers and ranges, separated by commas, at most 255.
-    Protocol,
-    /// `--sport`: numbers and ranges, separated by commas, at most 65,535.
-    SourcePort,
-    /// `--dport`: like `--sport`.
-    DestinationPort,
+    /// `--protocol`, or the name of another number: numbers and ranges, separated by commas, up to its maximum.
+    Number(Number),
     /// `--saddress`: addresses and blocks, separated by commas.
     SourceAddress,
     /// `--daddress`: like `--saddress`.
@@ -25,11 +23,11 @@ pub enum FilterOption {
     AnyLabel,
 }
 
-/// All options, in the order in which their texts are read.
+/// The options of `flowlabel`, in the order in which their texts are read.
 pub const ALL_OPTIONS: [FilterOption; 10] = [
-    FilterOption::Protocol,
-    FilterOption::SourcePort,
-    FilterOption::DestinationPort,
+    FilterOption::Number(Number::Protocol),
+    FilterOption::Number(Number::SourcePort),
+    FilterOption::Number(Number::DestinationPort),
     FilterOption::SourceAddress,
     FilterOption::DestinationAddress,
     FilterOption::Packets,
@@ -37,6 +35,25 @@ pub const ALL_OPTIONS: [FilterOption; 10] = [
     FilterOption::SourceLabel,
     FilterOption::DestinationLabel,
     FilterOption::AnyLabel,
+];
+
+/// All options: `ALL_OPTIONS`, and the numbers that are no columns of rows.
+pub const MANY_OPTIONS: [FilterOption; 15] = [
+    FilterOption::Number(Number::Protocol),
+    FilterOption::Number(Number::SourcePort),
+    FilterOption::Number(Number::DestinationPort),
+    FilterOption::SourceAddress,
+    FilterOption::DestinationAddress,
+    FilterOption::Packets,
+    FilterOption::Bytes,
+    FilterOption::SourceLabel,
+    FilterOption::DestinationLabel,
+    FilterOption::AnyLabel,
+    FilterOption::Number(Number::InputInterface),
+    FilterOption::Number(Number::OutputInterface),
+    FilterOption::Number(Number::Vlan),
+    FilterOption::Number(Number::SourceAs),
+    FilterOption::Number(Number::DestinationAs),
 ];
 
 impl FilterOption {
@@ -47,9 +64,8 @@ impl FilterOption {
         ensures { result.now ≡ name_of self }
     {
         match self {
-            FilterOption::Protocol => "protocol",
-            FilterOption::SourcePort => "sport",
-            FilterOption::DestinationPort => "dport",
+            FilterOption::Number(Number::Protocol) => "protocol",
+            FilterOption::Number(number) => number.name(),
             FilterOption::SourceAddress => "saddress",
             FilterOption::DestinationAddress => "daddress",
             FilterOption::Packets => "packets",

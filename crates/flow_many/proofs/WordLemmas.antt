@@ -7,7 +7,7 @@ use Rattle.std.specs.Str.{bytes_eq}
 use Rattle.std.proofs.lemmas.Bool.{or_parts}
 use Rattle.std.proofs.lemmas.List.{append-nil}
 use Rattle.pmap_model.specs.Steps.{◌>>=◌}
-use Rattle.flow_uniq.specs.Key.{all_fields, each_once, field_name, field_named, fields_need_labels, has_unnamed, items_of, keys_reading, named_fields, same_field, with_field, with_unit}
+use Rattle.flow_uniq.specs.Key.{each_once, field_name, field_named, fields_need_labels, has_unnamed, items_of, keys_among, many_fields, named_fields, same_field, with_field, with_unit}
 use Rattle.flow_uniq.specs.declared.fault.KeyFault.{KeyFault}
 use Rattle.flow_uniq.specs.declared.fault.KeyFault.TheVariants.{BadField, FieldRepeated}
 use Rattle.flow_uniq.specs.declared.field.KeyField.{KeyField}
@@ -15,7 +15,10 @@ use Rattle.flow_uniq.specs.declared.field.Precision.{Precision}
 use Rattle.flow_uniq.specs.declared.field.Precision.TheVariants.{Day, Hour, Minute}
 use Rattle.flow_uniq.specs.declared.field.TimeUnit.{TimeUnit}
 use Rattle.flow_uniq.specs.Times.{precision_name}
-use Rattle.flow_uniq.specs.declared.field.KeyField.TheVariants.{Start}
+use Rattle.flow_uniq.specs.declared.field.KeyField.TheVariants.{Number, Start}
+use Rattle.flow_rows.specs.Numbers.{about}
+use Rattle.flow_rows.specs.declared.number.Number as rows
+use Rattle.flow_rows.specs.declared.number.Number.TheVariants.{SourcePort}
 use Rattle.flow_files.specs.Answer.{IsUnlessMemory, fields_reading}
 use Rattle.flow_files.specs.Sources.{Text}
 use Rattle.flow_files.specs.declared.usage.UsageFault.{UsageFault}
@@ -58,27 +61,38 @@ found_in p q (y ∷ ys) x none is =
     found_here (p y) y x q (find p ys) parts.0 (λ later. found_in p q ys x parts.1 later) is
 
 -- no text names a time
-named_timeless : (text : Text) (field : KeyField) → field_named text ≡ Some field → is_timed field ≡ false
+named_timeless : (text : Text) (field : KeyField) → field_named many_fields text ≡ Some field → is_timed field ≡ false
 unfolding is_timed
-named_timeless text field is = found_in (λ f. bytes_eq (field_name f) text) is_timed all_fields field refl is
+named_timeless text field is = found_in (λ f. bytes_eq (field_name f) text) is_timed many_fields field refl is
 
 cons_timeless : (found : Option KeyField) (rest : List KeyField) → ((field : KeyField) → found ≡ Some field → is_timed field ≡ false)
     → list_any is_timed rest ≡ false → list_any is_timed (cons_option found rest) ≡ false
 cons_timeless None rest each none = none
 cons_timeless (Some field) rest each none = rw (each field refl) none
 
-all_timeless : (items : List Text) → list_any is_timed (named_fields items) ≡ false
+all_timeless : (items : List Text) → list_any is_timed (named_fields many_fields items) ≡ false
 all_timeless [] = refl
-all_timeless (item ∷ items) = cons_timeless (field_named item) (named_fields items) (named_timeless item) (all_timeless items)
+all_timeless (item ∷ items) = cons_timeless (field_named many_fields item) (named_fields many_fields items) (named_timeless item) (all_timeless items)
 
 -- the name of a field that is no time is that of no unit
+number_apart : (precision : Precision) (number : rows.Number) → bytes_eq (about number).0 (precision_name precision) ≡ false
+number_apart Day SourcePort = refl
+number_apart Day number = refl
+number_apart Hour SourcePort = refl
+number_apart Hour number = refl
+number_apart Minute SourcePort = refl
+number_apart Minute number = refl
+
 apart : (precision : Precision) (field : KeyField) → is_timed field ≡ false → bytes_eq (field_name field) (precision_name precision) ≡ false
 unfolding is_timed
 apart Day (Start unit) timeless = cc
+apart Day (Number number) timeless = number_apart Day number
 apart Day field timeless = refl
 apart Hour (Start unit) timeless = cc
+apart Hour (Number number) timeless = number_apart Hour number
 apart Hour field timeless = refl
 apart Minute (Start unit) timeless = cc
+apart Minute (Number number) timeless = number_apart Minute number
 apart Minute field timeless = refl
 
 -- fields are added, unless one of them is there already
@@ -120,13 +134,13 @@ reads names (Ok other) keys is = cc
 reads names (Err fault) keys is = cc
 
 -- fields that a text names have no time, and a time can be put before them
-read_once : (names : Text) (keys : List KeyField) → fields_reading names ≡ Ok keys → fold with_field (Some []) (named_fields (items_of names)) ≡ Some keys
-read_once names keys is = each_is (has_unnamed (items_of names)) (each_once (named_fields (items_of names))) keys (reads names (keys_reading names) keys is)
+read_once : (names : Text) (keys : List KeyField) → fields_reading many_fields names ≡ Ok keys → fold with_field (Some []) (named_fields many_fields (items_of names)) ≡ Some keys
+read_once names keys is = each_is (has_unnamed many_fields (items_of names)) (each_once (named_fields many_fields (items_of names))) keys (reads names (keys_among many_fields names) keys is)
 
-pub with_unit_is : (unit : TimeUnit) (names : Text) (keys : List KeyField) → fields_reading names ≡ Ok keys → with_unit unit keys ≡ Some (Start unit ∷ keys)
+pub with_unit_is : (unit : TimeUnit) (names : Text) (keys : List KeyField) → fields_reading many_fields names ≡ Ok keys → with_unit unit keys ≡ Some (Start unit ∷ keys)
 with_unit_is unit names keys is =
-    ap (λ (ks : List KeyField). fold with_field (Some (Start unit ∷ [])) ks) (folded_are [] (named_fields (items_of names)) keys (read_once names keys is))
-    ∙ folded_after_time unit [] (named_fields (items_of names)) keys (all_timeless (items_of names)) (read_once names keys is)
+    ap (λ (ks : List KeyField). fold with_field (Some (Start unit ∷ [])) ks) (folded_are [] (named_fields many_fields (items_of names)) keys (read_once names keys is))
+    ∙ folded_after_time unit [] (named_fields many_fields (items_of names)) keys (all_timeless (items_of names)) (read_once names keys is)
 
 -- the unit of time and the fields that are asked for
 abbrev pub Asked : Type 0
@@ -147,12 +161,12 @@ timeless_parts [] none = refl
 timeless_parts (Start unit ∷ fields) none = cc
 timeless_parts (field ∷ fields) none = refl
 
-pub without_time : (names : Text) (result : Result (List KeyField) UsageFault) → IsUnlessMemory (λ (keys : List KeyField). keys) (fields_reading names) result
-    → IsUnlessMemory asked_of (fields_reading names >>= (λ fields. Ok (untimed fields))) result
+pub without_time : (names : Text) (result : Result (List KeyField) UsageFault) → IsUnlessMemory (λ (keys : List KeyField). keys) (fields_reading many_fields names) result
+    → IsUnlessMemory asked_of (fields_reading many_fields names >>= (λ fields. Ok (untimed fields))) result
 without_time names (Ok keys) says =
     ap (λ (r : Result (List KeyField) UsageFault). r >>= (λ fields. Ok (untimed fields))) says
     ∙ ap Ok (sym (timeless_parts keys (subst (λ (ks : List KeyField). list_any is_timed ks ≡ false)
-    (sym (folded_are [] (named_fields (items_of names)) keys (read_once names keys says))) (all_timeless (items_of names)))))
+    (sym (folded_are [] (named_fields many_fields (items_of names)) keys (read_once names keys says))) (all_timeless (items_of names)))))
 without_time names (Err fault) says = (
   says.0,
   λ other. ap (λ (r : Result (List KeyField) UsageFault). r >>= (λ fields. Ok (untimed fields))) (says.1 other),

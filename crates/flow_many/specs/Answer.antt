@@ -5,13 +5,14 @@ use Rattle.std.specs.Str.{bytes_eq}
 use Rattle.prefix_keys.specs.Text.{decimal_number}
 use Rattle.pmap_model.specs.Steps.{◌>>=◌}
 use Rattle.flow_filter.specs.Condition.{condition_needs_labels}
+use Rattle.flow_filter.specs.declared.option.TheConstants.{MANY_OPTIONS}
 use Rattle.flow_uniq.specs.declared.field.KeyField.{KeyField}
 use Rattle.flow_uniq.specs.declared.field.Precision.{Precision}
 use Rattle.flow_uniq.specs.declared.field.Precision.TheVariants.{Day, Hour, Minute}
-use Rattle.flow_uniq.specs.Key.{fields_need_labels}
+use Rattle.flow_uniq.specs.Key.{fields_need_labels, many_fields}
 use Rattle.flow_uniq.specs.Times.{minutes_unit}
 use Rattle.clap.specs.Words.{Row, all_of, first_of}
-use Rattle.flow_files.specs.Answer.{AreAnswered, AreFaulty, AreParsed, condition_in_rows}
+use Rattle.flow_files.specs.Answer.{AreAnswered, AreFaulty, AreParsed, condition_among}
 use Rattle.flow_files.specs.Answer.{fields_reading, is_given, sources_in_rows}
 use Rattle.flow_files.specs.declared.usage.UsageFault.{UsageFault}
 use Rattle.flow_files.specs.declared.usage.UsageFault.TheVariants.{Unit as BadUnit, KeysMissing, LabelNeedsMap}
@@ -42,10 +43,10 @@ unit_named text =
 abbrev pub keys_answer : Option Text → Option Text
     → Result (Option (Precision × ℕ) × List KeyField) UsageFault
 keys_answer None None = Err KeysMissing
-keys_answer None (Some names) = fields_reading names >>= (λ fields. Ok (None, fields))
+keys_answer None (Some names) = fields_reading many_fields names >>= (λ fields. Ok (None, fields))
 keys_answer (Some name) None = ok_or (unit_named name) BadUnit >>= (λ unit. Ok (Some unit, []))
 keys_answer (Some name) (Some names) = ok_or (unit_named name) BadUnit >>= (λ unit.
-    fields_reading names >>= (λ fields. Ok (Some unit, fields)))
+    fields_reading many_fields names >>= (λ fields. Ok (Some unit, fields)))
 
 abbrev pub keys_in_rows : List Row → Result (Option (Precision × ℕ) × List KeyField) UsageFault
 keys_in_rows entries =
@@ -57,7 +58,7 @@ files_in_rows entries = unwrap_or (all_of (codes "files") entries) []
 
 abbrev pub answer_of_sum : List Row → Answer
 answer_of_sum entries =
-    sources_in_rows entries >>= (λ source. condition_in_rows entries >>= (λ condition.
+    sources_in_rows entries >>= (λ source. condition_among MANY_OPTIONS entries >>= (λ condition.
     keys_in_rows entries >>= (λ keys.
     if (condition_needs_labels condition || fields_need_labels keys.1) && is_none source
     then Err LabelNeedsMap else Ok (sum keys.0 keys.1 source condition

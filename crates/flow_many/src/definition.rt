@@ -35,8 +35,32 @@ const KEYS: [Argument<'static>; 2] = [
         "fields",
         "NAMES",
         "Keys",
-        "The fields to sum by, such as sip,dport: sip, dip,\nsport, dport, proto, flags, src-label, dst-label",
+        "The fields to sum by, such as sip,dport: sip, dip,\nsport, dport, proto, flags, in-if, out-if, vlan,\nsrc-as, dst-as, src-label, dst-label",
     ),
+];
+
+// The options for filters that `flowlabel` doesn't have.
+const MORE_FILTERS: [Argument<'static>; 5] = [
+    Optional(
+        "in-if",
+        "NUMBERS",
+        "Filters",
+        "Flows that came in by these interfaces",
+    ),
+    Optional(
+        "out-if",
+        "NUMBERS",
+        "Filters",
+        "Flows that went out by these interfaces",
+    ),
+    Optional("vlan", "NUMBERS", "Filters", "Flows of these VLANs"),
+    Optional(
+        "src-as",
+        "NUMBERS",
+        "Filters",
+        "Flows from these AS numbers",
+    ),
+    Optional("dst-as", "NUMBERS", "Filters", "Flows to these AS numbers"),
 ];
 
 const OUTPUT: [Argument<'static>; 2] = [
@@ -66,7 +90,7 @@ const SUBCOMMANDS: [Subcommand<'static>; 2] = [
             "the sums by day and customer",
             "sum --by day --fields dst-label --pmap customers.txt month/*.ipfix"
         ),
-        arguments: &[&KEYS, &SOURCES, &FILTERS, &OUTPUT, &FILES],
+        arguments: &[&KEYS, &SOURCES, &FILTERS, &MORE_FILTERS, &OUTPUT, &FILES],
     },
     Subcommand {
         name: "messages",

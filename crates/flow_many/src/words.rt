@@ -15,9 +15,9 @@ use crate::definition::definition;
 use crate::names::Names;
 use clap::ArgMatches;
 use flow_files::{
-    UsageFault, fault_of_error, filter_in, first_text, is_given, labels_in, read_keys,
+    UsageFault, fault_of_error, first_text, is_given, labels_in, read_keys, whole_filter_in,
 };
-use flow_uniq::{KeyFault, KeyField, Keys, TimeUnit};
+use flow_uniq::{KeyFault, KeyField, Keys, MANY_FIELDS, TimeUnit};
 use prefix_keys::{cut, read_decimal};
 use std::alloc::{AllocError, Global};
 use std::convert::AsStr;
@@ -63,11 +63,11 @@ fn keys_in(entries: &ArgMatches<'_>) -> Result<Keys, UsageFault>
 {
     let names = first_text(entries, "fields");
     let Some(by) = first_text(entries, "by") else {
-        return read_keys(names.ok_or(UsageFault::KeysMissing)?);
+        return read_keys(&MANY_FIELDS, names.ok_or(UsageFault::KeysMissing)?);
     };
     let unit = unit_named(by).ok_or(UsageFault::Unit)?;
     match names {
-        Some(names) => with_time(unit, read_keys(names)?.fields()),
+        Some(names) => with_time(unit, read_keys(&MANY_FIELDS, names)?.fields()),
         None => with_time(unit, &[]),
     }
 }
@@ -83,7 +83,7 @@ fn sum_command<'a>(alloc: Global, entries: &ArgMatches<'a>) -> Result<Command<'a
     ensures { IsUnlessMemory request_of (answer_of_sum (rows_of (found_of entries.now))) result }
 {
     let labels = labels_in(entries)?;
-    let filter = filter_in(alloc, entries)?;
+    let filter = whole_filter_in(alloc, entries)?;
     let keys = keys_in(entries)?;
     if (filter.needs_map() || keys.needs_map()) && labels.is_none() {
         return Err(UsageFault::LabelNeedsMap);

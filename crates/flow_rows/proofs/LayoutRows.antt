@@ -21,16 +21,16 @@ use Rattle.ipfix_templates.specs.declared.kind.Kind.{Kind}
 use Rattle.ipfix_templates.specs.declared.kind.Kind.TheVariants.{Flow, Options}
 use Rattle.ipfix_read.specs.Value.{FieldValueView, values_at}
 use Rattle.ipfix_read.specs.declared.record.Record.{Record}
-use Rattle.flow_rows.specs.Elements.{RowView, element, count_of, first_row, row_back, row_between, row_of_elements, rows_of_record, second_row}
+use Rattle.flow_rows.specs.Elements.{RowView, element, either, first_row, row_back, row_between, row_of_elements, rows_of_record, second_row}
 use Rattle.flow_rows.specs.Inner.{AreUsable, IsWithin, number_there, row_at, version_of}
 use Rattle.flow_rows.proofs.Reading.{none_there, said_there, within_record}
 use Rattle.flow_rows.proofs.Usable.{IsListed, fields_of, length-place, there-place}
 
 -- one of two numbers
-either : (num : Place → ℕ) (p q : Place) (said : Option ℕ) → num p ≡ unwrap_or said 0 → is_there p ≡ is_some said
+either_is : (num : Place → ℕ) (p q : Place) (said : Option ℕ) → num p ≡ unwrap_or said 0 → is_there p ≡ is_some said
     → num (place_or p q) ≡ unwrap_or said (num q)
-either num p q None is there = rw there refl
-either num p q (Some x) is there = rw there is
+either_is num p q None is there = rw there refl
+either_is num p q (Some x) is there = rw there is
 
 both_missing : (a b : Option ℕ) → unwrap_or a (unwrap_or b 0) ≡ unwrap_or (option_or a b) 0
 both_missing None b = refl
@@ -46,7 +46,7 @@ module _ (num : Place → ℕ) where
   IsOf p said = (num p ≡ unwrap_or said 0) × (is_there p ≡ is_some said)
 
   either_of : (p q : Place) (a b : Option ℕ) → IsOf p a → IsOf q b → num (place_or p q) ≡ unwrap_or (option_or a b) 0
-  either_of p q a b of_p of_q = either num p q a of_p.0 of_p.1 ∙ ap (unwrap_or a) of_q.0 ∙ both_missing a b
+  either_of p q a b of_p of_q = either_is num p q a of_p.0 of_p.1 ∙ ap (unwrap_or a) of_q.0 ∙ both_missing a b
 
   module _ (at : ℕ → Place) (said : ℕ → Option ℕ) (of : (number : ℕ) → IsOf (at number) (said number)) where
     between_is : (is_v4 : Bool) (src dst : Place) (a b : Option ℕ) → IsOf src a → IsOf dst b
@@ -64,6 +64,11 @@ module _ (num : Place → ℕ) where
           dport = (of 11).0 i;
           protocol = (of 4).0 i;
           flags = (of 6).0 i;
+          in_if = (of 10).0 i;
+          out_if = (of 14).0 i;
+          vlan = either_of (at 58) (at 243) (said 58) (said 243) (of 58) (of 243) i;
+          src_as = (of 16).0 i;
+          dst_as = (of 17).0 i;
           packets = either_of (at 2) (at 86) (said 2) (said 86) (of 2) (of 86) i;
           octets = either_of (at 1) (at 85) (said 1) (said 85) (of 1) (of 85) i;
           start_ms = (of 152).0 i;
@@ -99,10 +104,15 @@ module _ (num : Place → ℕ) where
           dport = num first.sport;
           protocol = num first.protocol;
           flags = (of 6).0 i;
+          in_if = num first.out_if;
+          out_if = num first.in_if;
+          vlan = num first.vlan;
+          src_as = num first.dst_as;
+          dst_as = num first.src_as;
           packets = packets i;
           octets = either_of (at 1) (at 85) (said 1) (said 85) (of 1) (of 85) i;
-          start_ms = either num (at 152) first.start_ms (said 152) (of 152).0 (of 152).1 i;
-          end_ms = either num (at 153) first.end_ms (said 153) (of 153).0 (of 153).1 i;
+          start_ms = either_is num (at 152) first.start_ms (said 152) (of 152).0 (of 152).1 i;
+          end_ms = either_is num (at 153) first.end_ms (said 153) (of 153).0 (of 153).1 i;
         }))
 
 -- ---- the lengths at places
@@ -144,6 +154,11 @@ module _ (fields : List FieldView) (bytes : List ℕ) (x : List FieldValueView �
     dport = most forward 11 (1, 2) refl;
     protocol = most forward 4 (1, 1) refl;
     flags = most forward 6 (1, 2) refl;
+    in_if = most forward 10 (1, 4) refl;
+    out_if = most forward 14 (1, 4) refl;
+    vlan = within_either 2 size (place_at forward 58) (place_at forward 243) (most forward 58 (1, 2) refl) (most forward 243 (1, 2) refl);
+    src_as = most forward 16 (1, 4) refl;
+    dst_as = most forward 17 (1, 4) refl;
     packets = within_either 8 size (place_at forward 2) (place_at forward 86) (most forward 2 (1, 8) refl) (most forward 86 (1, 8) refl);
     octets = within_either 8 size (place_at forward 1) (place_at forward 85) (most forward 1 (1, 8) refl) (most forward 85 (1, 8) refl);
     start_ms = most forward 152 (8, 8) refl;
@@ -160,6 +175,11 @@ module _ (fields : List FieldView) (bytes : List ℕ) (x : List FieldValueView �
     dport = usable.sport;
     protocol = usable.protocol;
     flags = most back 6 (1, 2) refl;
+    in_if = usable.out_if;
+    out_if = usable.in_if;
+    vlan = usable.vlan;
+    src_as = usable.dst_as;
+    dst_as = usable.src_as;
     packets = within_either 8 size (place_at back 2) (place_at back 86) (most back 2 (1, 8) refl) (most back 86 (1, 8) refl);
     octets = within_either 8 size (place_at back 1) (place_at back 85) (most back 1 (1, 8) refl) (most back 85 (1, 8) refl);
     start_ms = within_either 8 size (place_at back 152) first.start_ms (most back 152 (8, 8) refl) usable.start_ms;
@@ -349,7 +369,7 @@ no_second r l found none =
     neither None (Some x) none = absurd (cc)
     neither (Some x) b none = absurd (cc)
 
-    without : (first : Option RowView) → count_of 2 86 (element back r.fields) ≡ 0 → is_some (option_and_then (row_back (element back r.fields)) first) ≡ false
+    without : (first : Option RowView) → either 2 86 (element back r.fields) ≡ 0 → is_some (option_and_then (row_back (element back r.fields)) first) ≡ false
     without None none = refl
     without (Some row) none = rw none refl
 

@@ -20,6 +20,11 @@ pub record RowView : Type 0 where
   pub dport : ℕ
   pub protocol : ℕ
   pub flags : ℕ
+  pub in_if : ℕ
+  pub out_if : ℕ
+  pub vlan : ℕ
+  pub src_as : ℕ
+  pub dst_as : ℕ
   pub packets : ℕ
   pub octets : ℕ
   pub start_ms : ℕ
@@ -36,10 +41,10 @@ element direction values number =
 
 -- The rows of a record, from the numbers of its elements.
 
--- the count of two elements of a direction: the count since the last report precedes that since the flow began, and a
--- missing count is 0
-abbrev pub count_of : ℕ → ℕ → (ℕ → Option ℕ) → ℕ
-count_of delta total said = unwrap_or (option_or (said delta) (said total)) 0
+-- the number of the first of two elements that is there, or 0: the count since the last report precedes that since the
+-- flow began
+abbrev pub either : ℕ → ℕ → (ℕ → Option ℕ) → ℕ
+either first second said = unwrap_or (option_or (said first) (said second)) 0
 
 -- the row between two addresses of a version, if both exist; missing numbers are 0
 abbrev pub row_between : Version → Option ℕ → Option ℕ → (ℕ → Option ℕ) → Option RowView
@@ -53,8 +58,13 @@ row_between version (Some src) (Some dst) said =
       dport = number 11;
       protocol = number 4;
       flags = number 6;
-      packets = count_of 2 86 said;
-      octets = count_of 1 85 said;
+      in_if = number 10;
+      out_if = number 14;
+      vlan = either 58 243 said;
+      src_as = number 16;
+      dst_as = number 17;
+      packets = either 2 86 said;
+      octets = either 1 85 said;
       start_ms = number 152;
       end_ms = number 153;
     })
@@ -69,17 +79,21 @@ row_of_elements said =
 abbrev pub first_row : Record → Option RowView
 first_row r = if same_kind r.kind Flow then row_of_elements (element forward r.fields) else None
 
--- the row of the reverse direction of a row, from the numbers of that direction, if it has packets: addresses and ports
--- are exchanged, the protocol is the same, and a missing time is that of the row
+-- the row of the reverse direction of a row, from the numbers of that direction, if it has packets: addresses, ports,
+-- interfaces and ASes are exchanged, the protocol and the VLAN are the same, and a missing time is that of the row
 abbrev pub row_back : (ℕ → Option ℕ) → RowView → Option RowView
-row_back said row = if count_of 2 86 said == 0 then None else Some (record row {
+row_back said row = if either 2 86 said == 0 then None else Some (record row {
   src = row.dst;
   dst = row.src;
   sport = row.dport;
   dport = row.sport;
   flags = unwrap_or (said 6) 0;
-  packets = count_of 2 86 said;
-  octets = count_of 1 85 said;
+  in_if = row.out_if;
+  out_if = row.in_if;
+  src_as = row.dst_as;
+  dst_as = row.src_as;
+  packets = either 2 86 said;
+  octets = either 1 85 said;
   start_ms = unwrap_or (said 152) row.start_ms;
   end_ms = unwrap_or (said 153) row.end_ms;
 })

@@ -43,6 +43,11 @@ row_at places number = record {
   dport = number places.dport;
   protocol = number places.protocol;
   flags = number places.flags;
+  in_if = number places.in_if;
+  out_if = number places.out_if;
+  vlan = number places.vlan;
+  src_as = number places.src_as;
+  dst_as = number places.dst_as;
   packets = number places.packets;
   octets = number places.octets;
   start_ms = number places.start_ms;
@@ -65,6 +70,11 @@ pub record AreUsable (size : ℕ) (places : Places) : Type 0 where
   pub dport : IsWithin 2 size places.dport
   pub protocol : IsWithin 1 size places.protocol
   pub flags : IsWithin 2 size places.flags
+  pub in_if : IsWithin 4 size places.in_if
+  pub out_if : IsWithin 4 size places.out_if
+  pub vlan : IsWithin 2 size places.vlan
+  pub src_as : IsWithin 4 size places.src_as
+  pub dst_as : IsWithin 4 size places.dst_as
   pub packets : IsWithin 8 size places.packets
   pub octets : IsWithin 8 size places.octets
   pub start_ms : IsWithin 8 size places.start_ms

@@ -1,4 +1,5 @@
 pub mod Elements
+pub mod Numbers
 pub mod Counts
 pub mod Inner
 pub mod Laws

@@ -26,6 +26,7 @@
 mod counts;
 mod laws;
 mod message_counts;
+mod number;
 mod place;
 mod record;
 mod row;
@@ -34,6 +35,7 @@ mod walk;
 pub use counts::Counts;
 pub use laws::{counts_add_up, joined_file_adds_up, message_counts_add_up};
 pub use message_counts::MessageCounts;
+pub use number::{MORE_NUMBERS, NUMBERS, Number};
 pub use record::{reverse_row_of, row_of};
 pub use row::Row;
 pub use walk::{Rows, rows_of};

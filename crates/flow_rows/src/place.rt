@@ -63,6 +63,23 @@ pub fn u64_there(place: &Place, runs: &[u32], bytes: &[u8]) -> u64
     }
 }
 
+/// Returns the number of up to 4 bytes at a place in a record, or 0 if the place is empty or the record is too short.
+/// Out of line, since few keys and filters have such a number.
+#[inline(never)]
+pub fn u32_there(place: &Place, runs: &[u32], bytes: &[u8]) -> u32
+    requires { IsWithin 4 (length bytes.now) place.now }
+    ensures { result ≡ number_there place.now runs.now bytes.now }
+{
+    let value = bytes_there(place, runs, bytes);
+    match value.len() {
+        2 => u32::from(BigEndian::read_u16(value)),
+        1 => u32::from(value[0]),
+        4 => BigEndian::read_u32(value),
+        3 => BigEndian::read_u24(value),
+        _ => 0,
+    }
+}
+
 /// Returns the number of up to 2 bytes at a place in a record, or 0 if the place is empty or the record is too short.
 #[inline(always)]
 pub fn u16_there(place: &Place, runs: &[u32], bytes: &[u8]) -> u16

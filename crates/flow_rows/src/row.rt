@@ -1,7 +1,9 @@
 ghost use Rattle.std.specs.Prelude.{◌≡◌, if◌then◌else◌, length};
 ghost use Rattle.flow_rows.specs.Inner.{AreUsable, IsWithin, number_there, row_at, version_of};
+ghost use Rattle.flow_rows.specs.Numbers.{about};
 
-use crate::place::{bytes_there, u16_there, u64_there};
+use crate::number::Number;
+use crate::place::{bytes_there, u16_there, u32_there, u64_there};
 use byteorder::{BigEndian, ByteOrder};
 use ipfix_templates::{Place, Places};
 use prefix_keys::{Addr, Version};
@@ -129,6 +131,24 @@ impl<'a> Row<'a> {
             .first()
             .copied()
             .unwrap_or(0)
+    }
+
+    /// A number of up to 32 bits.
+    #[inline(always)]
+    pub fn number(&self, number: Number) -> u32
+        ensures { result ≡ (about number).1.1 self.now }
+    {
+        match number {
+            Number::SourcePort => u32::from(self.sport()),
+            Number::DestinationPort => u32::from(self.dport()),
+            Number::Protocol => u32::from(self.protocol()),
+            Number::Flags => u32::from(self.flags()),
+            Number::InputInterface => u32_there(&self.places.in_if, self.runs, self.bytes),
+            Number::OutputInterface => u32_there(&self.places.out_if, self.runs, self.bytes),
+            Number::Vlan => u32::from(u16_there(&self.places.vlan, self.runs, self.bytes)),
+            Number::SourceAs => u32_there(&self.places.src_as, self.runs, self.bytes),
+            Number::DestinationAs => u32_there(&self.places.dst_as, self.runs, self.bytes),
+        }
     }
 
     /// The union of the TCP flags of all packets.

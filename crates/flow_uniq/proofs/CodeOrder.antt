@@ -1,5 +1,6 @@
 -- The codes of keys are in the order of the keys.
-use Rattle.std.proofs.Common.{◌≡◌, ℕ, zero, suc, ◌+◌, ◌*◌, ◌/◌, ◌%◌, ◌^◌, ◌<◌, List, [], ◌∷◌, ◌++◌, length, Option, Some, None, Less, Equal, Greater, true≢false, refl, sym, ap, subst, ◌∙◌, arith, pow-suc}
+use Rattle.std.proofs.Common.{◌≡◌, ℕ, zero, suc, Bool, true, false, nat_lt, ◌+◌, ◌*◌, ◌/◌, ◌%◌, ◌^◌, ◌<◌, List, [], ◌∷◌, ◌++◌, length, Option, Some, None, Less, Equal, Greater, true≢false, refl, sym, ap, subst, ◌∙◌, arith, pow-suc}
+use Rattle.std.proofs.lemmas.Bool.{ltb-false, ltb-true}
 use Rattle.std.proofs.lemmas.Cmp.{ranked}
 use Rattle.std.proofs.lemmas.List.{append_assoc}
 use Rattle.std.proofs.lemmas.Nat.{from_be_bytes-to_be_bytes_2, from_be_bytes-to_be_bytes_4, from_be_bytes-to_be_bytes_8}
@@ -11,10 +12,10 @@ use Rattle.std.specs.Option.{option_map_or}
 use Rattle.std.specs.Ordering.{MatchOrdering, nat_cmp, ordering_then}
 use Rattle.std.specs.declared.cmp.Ordering.{Ordering}
 use Rattle.prefix_keys.specs.declared.version.Version.TheVariants.{V4, V6}
-use Rattle.flow_uniq.specs.Codes.{AreSmall, IsCode, IsSmall, key_code, key_in, part_code}
+use Rattle.flow_uniq.specs.Codes.{AreSmall, IsCode, IsSmall, key_code, key_in, number_code, part_code}
 use Rattle.flow_uniq.specs.Key.{Key, KeyPartModel, AddressPart, NumberPart, LabelPart, TimePart, part_numbers}
 use Rattle.flow_uniq.specs.Times.{precision_number}
-use Rattle.flow_uniq.proofs.Cutting.{LacksZero, label-lacks_zero, small_code}
+use Rattle.flow_uniq.proofs.Cutting.{LacksZero, either_size, label-lacks_zero, small_code}
 
 abbrev bytes_cmp : List ℕ → List ℕ → Ordering
 bytes_cmp xs ys = slice_cmp nat_cmp xs ys
@@ -154,6 +155,16 @@ number_or_none (Some n) (Some m) = sym (nat_cmp_is (suc n) (suc m) (nat_cmp n m)
     raised Equal h = ap suc h
     raised Greater h = omega arith
 
+-- numbers of two bytes, and larger ones
+numbers_order : (small other : Bool) (n m : ℕ) (r s : List ℕ) → nat_lt n 65536 ≡ small → nat_lt m 65536 ≡ other → n < 2 ^ 32 → m < 2 ^ 32
+    → bytes_cmp (number_code small n ++ r) (number_code other m ++ s) ≡ ordering_then (nat_cmp n m) (bytes_cmp r s)
+numbers_order true true n m r s n_is m_is h k = number_order 2 n m r s (value_2 n (ltb-true n 65536 n_is)) (value_2 m (ltb-true m 65536 m_is))
+numbers_order false false n m r s n_is m_is h k = number_order 4 n m r s (value_4 n h) (value_4 m k)
+numbers_order true false n m r s n_is m_is h k =
+    sym (less_first n m (bytes_cmp r s) (omega (arith, ltb-true n 65536 n_is, ltb-false m 65536 m_is)))
+numbers_order false true n m r s n_is m_is h k =
+    sym (more_first n m (bytes_cmp r s) (omega (arith, ltb-false n 65536 n_is, ltb-true m 65536 m_is)))
+
 part_order : (p q : KeyPartModel) (r s : List ℕ) → IsSmall p → IsSmall q
     → bytes_cmp (part_code p ++ r) (part_code q ++ s) ≡ ordering_then (parts_cmp p q) (bytes_cmp r s)
 part_order (AddressPart (V4, v)) (AddressPart (V4, w)) r s h k =
@@ -161,7 +172,7 @@ part_order (AddressPart (V4, v)) (AddressPart (V4, w)) r s h k =
 part_order (AddressPart (V6, v)) (AddressPart (V6, w)) r s h k =
     halves_order v w r s h k ∙ ap (λ o. ordering_then o (bytes_cmp r s)) (sym (then_equal (nat_cmp v w)))
 part_order (NumberPart n) (NumberPart m) r s h k =
-    number_order 2 n m r s (value_2 n h) (value_2 m k) ∙ ap (λ o. ordering_then o (bytes_cmp r s)) (sym (then_equal (nat_cmp n m)))
+    numbers_order _ _ n m r s refl refl h k ∙ ap (λ o. ordering_then o (bytes_cmp r s)) (sym (then_equal (nat_cmp n m)))
 part_order (TimePart p t) (TimePart q u) r s h k =
     let order : Ordering = nat_cmp (precision_number p) (precision_number q) in
     ap (ordering_then order)
@@ -171,29 +182,30 @@ part_order (TimePart p t) (TimePart q u) r s h k =
 part_order (LabelPart t) (LabelPart u) r s h k = label_order t u r s h k
 part_order (AddressPart (V4, v)) (AddressPart (V6, w)) r s h k = refl
 part_order (AddressPart (V6, v)) (AddressPart (V4, w)) r s h k = refl
-part_order (AddressPart (V4, v)) (NumberPart m) r s h k = refl
-part_order (AddressPart (V6, v)) (NumberPart m) r s h k = refl
+part_order (AddressPart (V4, v)) (NumberPart m) r s h k = either_size m (λ code. bytes_cmp (part_code (AddressPart (V4, v)) ++ r) (code ++ s) ≡ Less) refl refl
+part_order (AddressPart (V6, v)) (NumberPart m) r s h k = either_size m (λ code. bytes_cmp (part_code (AddressPart (V6, v)) ++ r) (code ++ s) ≡ Less) refl refl
 part_order (AddressPart (V4, v)) (LabelPart u) r s h k = refl
 part_order (AddressPart (V6, v)) (LabelPart u) r s h k = refl
-part_order (NumberPart n) (AddressPart (V4, w)) r s h k = refl
-part_order (NumberPart n) (AddressPart (V6, w)) r s h k = refl
-part_order (NumberPart n) (LabelPart u) r s h k = refl
+part_order (NumberPart n) (AddressPart (V4, w)) r s h k = either_size n (λ code. bytes_cmp (code ++ r) (part_code (AddressPart (V4, w)) ++ s) ≡ Greater) refl refl
+part_order (NumberPart n) (AddressPart (V6, w)) r s h k = either_size n (λ code. bytes_cmp (code ++ r) (part_code (AddressPart (V6, w)) ++ s) ≡ Greater) refl refl
+part_order (NumberPart n) (LabelPart u) r s h k = either_size n (λ code. bytes_cmp (code ++ r) (part_code (LabelPart u) ++ s) ≡ Less) refl refl
 part_order (LabelPart t) (AddressPart (V4, w)) r s h k = refl
 part_order (LabelPart t) (AddressPart (V6, w)) r s h k = refl
-part_order (LabelPart t) (NumberPart m) r s h k = refl
+part_order (LabelPart t) (NumberPart m) r s h k = either_size m (λ code. bytes_cmp (part_code (LabelPart t) ++ r) (code ++ s) ≡ Greater) refl refl
 part_order (AddressPart (V4, v)) (TimePart q u) r s h k = refl
 part_order (AddressPart (V6, v)) (TimePart q u) r s h k = refl
-part_order (NumberPart n) (TimePart q u) r s h k = refl
+part_order (NumberPart n) (TimePart q u) r s h k = either_size n (λ code. bytes_cmp (code ++ r) (part_code (TimePart q u) ++ s) ≡ Less) refl refl
 part_order (LabelPart t) (TimePart q u) r s h k = refl
 part_order (TimePart p t) (AddressPart (V4, w)) r s h k = refl
 part_order (TimePart p t) (AddressPart (V6, w)) r s h k = refl
-part_order (TimePart p t) (NumberPart m) r s h k = refl
+part_order (TimePart p t) (NumberPart m) r s h k = either_size m (λ code. bytes_cmp (part_code (TimePart p t) ++ r) (code ++ s) ≡ Greater) refl refl
 part_order (TimePart p t) (LabelPart u) r s h k = refl
 
 code_first : (p : KeyPartModel) (r : List ℕ) → (bytes_cmp [] (part_code p ++ r) ≡ Less) × (bytes_cmp (part_code p ++ r) [] ≡ Greater)
 code_first (AddressPart (V4, v)) r = (refl, refl)
 code_first (AddressPart (V6, v)) r = (refl, refl)
-code_first (NumberPart n) r = (refl, refl)
+code_first (NumberPart n) r =
+    (either_size n (λ code. bytes_cmp [] (code ++ r) ≡ Less) refl refl, either_size n (λ code. bytes_cmp (code ++ r) [] ≡ Greater) refl refl)
 code_first (LabelPart t) r = (refl, refl)
 code_first (TimePart precision number) r = (refl, refl)
 

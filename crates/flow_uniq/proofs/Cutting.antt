@@ -1,7 +1,7 @@
 -- The bytes that are written for a key are read back as this key.
 use Rattle.std.proofs.Common.{◌≡◌, ℕ, zero, suc, ◌+◌, ◌-◌, ◌*◌, ◌/◌, ◌%◌, ◌^◌, ◌<◌, ◌≤◌, ◌==◌, Bool, true, false, not, cond, if◌then◌else◌, true≢false, List, [], ◌∷◌, ◌++◌, length, take, drop, nat_lt, map, Option, Some, None, unwrap_or, refl, sym, ap, subst, ◌∙◌, arith}
 use Rattle.std.proofs.lemmas.List.{append-nil, append_assoc, drop_at, length-append, length-drop, take_at}
-use Rattle.std.proofs.lemmas.Bool.{and_parts, le-ltb, ne_eqb}
+use Rattle.std.proofs.lemmas.Bool.{and_parts, le-ltb, ltb-true, ne_eqb}
 use Rattle.std.proofs.lemmas.Bool.Decides.{nat_tests}
 use Rattle.std.proofs.lemmas.Nat.{from_be_bytes-to_be_bytes_2, from_be_bytes-to_be_bytes_4, from_be_bytes-to_be_bytes_8}
 use Rattle.std.proofs.lemmas.Option.{none-some}
@@ -13,7 +13,7 @@ use Rattle.prefix_keys.specs.declared.version.Version.TheVariants.{V4, V6}
 use Rattle.pmap_model.specs.Label.{is_label, is_label_byte}
 use Rattle.flow_uniq.specs.Key.{KeyField, Key, KeyPartModel, AddressPart, NumberPart, LabelPart, TimePart, Precision, Day, Hour, Minute}
 use Rattle.flow_uniq.specs.Times.{precision_number}
-use Rattle.flow_uniq.specs.Codes.{AreSmall, IsCode, IsSmall, first_part, front_bytes, front_label, front_time, key_code, key_in, number_before, part_code, parts_in, precision_at}
+use Rattle.flow_uniq.specs.Codes.{AreSmall, IsCode, IsSmall, first_part, front_bytes, front_label, front_time, key_code, key_in, number_before, number_code, part_code, parts_in, precision_at}
 
 -- bytes that were written are read back
 front_bytes-back : (n : ℕ) (xs r : List ℕ) → length xs ≡ n → front_bytes n (xs ++ r) ≡ Some (xs, r)
@@ -70,11 +70,23 @@ pub small_code : (precision : Precision) (number : Option ℕ) → IsSmall (Time
 small_code precision None h = omega arith
 small_code precision (Some n) h = omega arith
 
+-- a number has two bytes, or more
+pub either_size : (n : ℕ) (P : List ℕ → Type 0) → P (number_code true n) → P (number_code false n) → P (part_code (NumberPart n))
+either_size n P small large = elim (nat_lt n 65536) as (λ b. P (number_code b n)) [ true ↦ small | false ↦ large ]
+
+-- a number of two bytes, or a larger one, is read back
+number-back_at : (small : Bool) (n : ℕ) (r : List ℕ) → (small ≡ true → n < 2 ^ 16) → n < 2 ^ 32
+    → first_part (number_code small n ++ r) ≡ Some (NumberPart n, r)
+number-back_at true n r small h =
+    ap (option_map (λ c. (NumberPart (from_be_bytes w16 c.0), c.1))) (front_bytes-back 2 (to_be_bytes w16 n) r refl)
+    ∙ ap (λ (m : ℕ). Some (NumberPart m, r)) (from_be_bytes-to_be_bytes_2 n (small refl))
+number-back_at false n r small h =
+    ap (option_map (λ c. (NumberPart (from_be_bytes w32 c.0), c.1))) (front_bytes-back 4 (to_be_bytes w32 n) r refl)
+    ∙ ap (λ (m : ℕ). Some (NumberPart m, r)) (from_be_bytes-to_be_bytes_4 n h)
+
 -- a part that was written is read back, and the bytes after it remain
 first_part-back : (p : KeyPartModel) (r : List ℕ) → IsSmall p → first_part (part_code p ++ r) ≡ Some (p, r)
-first_part-back (NumberPart n) r h =
-    ap (option_map (λ c. (NumberPart (from_be_bytes w16 c.0), c.1))) (front_bytes-back 2 (to_be_bytes w16 n) r refl)
-    ∙ ap (λ (m : ℕ). Some (NumberPart m, r)) (from_be_bytes-to_be_bytes_2 n h)
+first_part-back (NumberPart n) r h = number-back_at (nat_lt n 65536) n r (ltb-true n 65536) h
 first_part-back (TimePart precision number) r h =
     let code : ℕ = option_map_or suc number 0 in
     ap (option_map (λ c. (TimePart (precision_at (precision_number precision)) (number_before (from_be_bytes w64 c.0)), c.1)))
@@ -97,7 +109,7 @@ first_part-back (AddressPart (V6, v)) r h =
     ∙ ap (λ (m : ℕ). Some (AddressPart (V6, m), r)) value
 
 one_byte : (p : KeyPartModel) → 1 ≤ length (part_code p)
-one_byte (NumberPart n) = omega arith
+one_byte (NumberPart n) = either_size n (λ code. 1 ≤ length code) (omega arith) (omega arith)
 one_byte (LabelPart label) = omega arith
 one_byte (TimePart precision number) = omega arith
 one_byte (AddressPart (V4, v)) = omega arith
@@ -172,7 +184,8 @@ rest_of_time (byte ∷ code) = more _ (rest_of_one code 8 _)
 rest_shorter : (kind : ℕ) (code : List ℕ) → Within (length code) (first_part (kind ∷ code))
 rest_shorter kind code =
     by _ _ (kind == 0) (rest_of_one code 4 _) (by _ _ (kind == 1) (rest_of_two code 8 _ _)
-    (by _ _ (kind == 2) (rest_of_one code 2 _) (by _ _ (kind == 4) (rest_of_time code) (rest_of_label code))))
+    (by _ _ (kind == 2) (rest_of_one code 2 _) (by _ _ (kind == 3) (rest_of_one code 4 _)
+    (by _ _ (kind == 5) (rest_of_time code) (rest_of_label code)))))
   where
     by : (x y : Option (KeyPartModel × List ℕ)) (b : Bool) → Within (length code) x → Within (length code) y → Within (length code) (if b then x else y)
     by x y true h k = h

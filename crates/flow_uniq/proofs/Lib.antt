@@ -9,6 +9,5 @@ pub mod Dividing
 pub mod Filtering
 pub mod Merging
 pub mod MergedParts
-pub mod Agreeing
 pub mod Parting
 pub mod RowGroups

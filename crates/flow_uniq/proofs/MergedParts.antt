@@ -2,7 +2,7 @@
 use Rattle.std.proofs.Common.{◌≡◌, ◌∙◌, Equal, Greater, Less, Ordering, Bool, true, false, not, ◌||◌, ◌&&◌, cond, Option, List, [], ◌∷◌, ◌++◌, map, filter, refl, sym, ap}
 use Rattle.std.specs.Cmp.{IsStrictWeakOrder}
 use Rattle.std.specs.Cmp.Lexicographic.{lists_ties, slice_cmp, texts_ties}
-use Rattle.std.specs.Ordering.{is_eq, is_lt, nat_cmp, ordering_reverse}
+use Rattle.std.specs.Ordering.{is_eq, is_lt, ordering_reverse}
 use Rattle.std.specs.List.{AllByRecursion, flat_map, list_any}
 use Rattle.std.specs.List.Sorted.{IsPermutation, ties}
 use Rattle.std.proofs.lemmas.Bool.{not-true}
@@ -16,7 +16,7 @@ use Rattle.pmap_model.specs.MapModel.{Label}
 use Rattle.pmap_model.specs.Sorting.{in_order}
 use Rattle.pmap_model.proofs.Sorting.{in_order-sorted, same-in_order, sorted_is, stable-in_order}
 use Rattle.flow_rows.specs.Elements.{RowView}
-use Rattle.flow_uniq.specs.Key.{Key, KeyField, KeyPartModel, key_of, part_numbers, same_key}
+use Rattle.flow_uniq.specs.Key.{Key, KeyField, compare_parts, key_of, part_numbers, same_key}
 use Rattle.flow_uniq.specs.Groups.{GroupModel, distinct_keys, groups_of, is_before, totals_of}
 use Rattle.flow_uniq.specs.Laws.{DivideRows, MergedAreAll, merged, totals_at}
 use Rattle.flow_uniq.proofs.Codes.{same_key-Decides}
@@ -117,9 +117,6 @@ ties-same_key z g =
     tied (compare z.key g.key) (compare g.key z.key) ((lists_total (on_total part_numbers nat_list_cmp_total)).antisymm g.key z.key)
     ∙ sym (lists_ties compare_parts (λ p q. texts_ties (part_numbers p) (part_numbers q)) z.key g.key)
   where
-    compare_parts : KeyPartModel → KeyPartModel → Ordering
-    compare_parts p q = slice_cmp nat_cmp (part_numbers p) (part_numbers q)
-
     compare : Key → Key → Ordering
     compare = slice_cmp compare_parts
 

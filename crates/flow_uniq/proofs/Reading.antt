@@ -12,9 +12,12 @@ use Rattle.std.specs.List.{IsDistinct, cons_option, list_any}
 use Rattle.std.specs.Str.{bytes_eq}
 use Rattle.std.specs.Prelude.{fold, Result, Ok, Err, is_none, ok_or, ◌||◌}
 use Rattle.std.specs.Set.{is_member}
-use Rattle.flow_uniq.specs.Key.{KeyField, TimeUnit, Precision, Day, Hour, Minute, KeyFault, BadField, FieldRepeated, all_fields, each_once, field_name, field_named, has_unnamed, items_of, keys_reading, named_fields, same_field, with_field, with_unit}
+use Rattle.flow_uniq.specs.Key.{KeyField, TimeUnit, Precision, Day, Hour, Minute, KeyFault, BadField, FieldRepeated, each_once, field_name, field_named, has_unnamed, items_of, keys_among, many_fields, named_fields, same_field, with_field, with_unit}
 use Rattle.flow_uniq.specs.Times.{precision_name}
-use Rattle.flow_uniq.specs.declared.field.KeyField.TheVariants.{SourceAddress, DestinationAddress, SourcePort, DestinationPort, Protocol, Flags, SourceLabel, DestinationLabel, Start}
+use Rattle.flow_uniq.specs.declared.field.KeyField.TheVariants.{SourceAddress, DestinationAddress, Number, SourceLabel, DestinationLabel, Start}
+use Rattle.flow_rows.specs.declared.number.Number.TheVariants.{SourcePort, DestinationPort, Protocol, Flags, InputInterface, OutputInterface, Vlan, SourceAs, DestinationAs}
+use Rattle.flow_rows.specs.Numbers.{about}
+use Rattle.flow_rows.specs.declared.number.Number as rows
 
 same_field-equiv : IsEquivalence same_field
 same_field-equiv = on_equiv field_name nat_list_eq_equiv
@@ -22,7 +25,7 @@ same_field-equiv = on_equiv field_name nat_list_eq_equiv
 -- a field of each name
 abbrev every_name : List KeyField
 every_name =
-    one Day ∷ one Hour ∷ one Minute ∷ all_fields
+    one Day ∷ one Hour ∷ one Minute ∷ many_fields
   where
     one : Precision → KeyField
     one precision = Start (record { precision = precision; count = 1; some = omega arith })
@@ -36,10 +39,18 @@ is_field (Start unit) = by unit.precision
     by Minute = refl
 is_field SourceAddress = refl
 is_field DestinationAddress = refl
-is_field SourcePort = refl
-is_field DestinationPort = refl
-is_field Protocol = refl
-is_field Flags = refl
+is_field (Number number) = by number
+  where
+    by : (number : rows.Number) → list_any (λ other. bytes_eq (about number).0 (field_name other)) every_name ≡ true
+    by SourcePort = refl
+    by DestinationPort = refl
+    by Protocol = refl
+    by Flags = refl
+    by InputInterface = refl
+    by OutputInterface = refl
+    by Vlan = refl
+    by SourceAs = refl
+    by DestinationAs = refl
 is_field SourceLabel = refl
 is_field DestinationLabel = refl
 
@@ -47,13 +58,13 @@ pub none_there : IsDistinct same_field []
 unfolding IsDistinct
 none_there = tt
 
--- fields that are distinct, and another one, are at most eleven
+-- fields that are distinct, and another one, are at most sixteen
 module _ (fields : List KeyField) (field : KeyField) (once : IsDistinct same_field fields) (new : list_any (same_field field) fields ≡ false) where
   pub once_more : IsDistinct same_field (fields ++ field ∷ [])
   once_more = IsDistinct-push same_field-equiv fields field once new
 
-  pub at_most_eleven : length fields < 11
-  at_most_eleven =
+  pub at_most_sixteen : length fields < 16
+  at_most_sixteen =
       omega (
         arith,
         length_push fields field,
@@ -61,12 +72,12 @@ module _ (fields : List KeyField) (field : KeyField) (once : IsDistinct same_fie
       )
 
 -- the items name fields, which are these unless one occurs twice
-pub record IsRead (names : List (List ℕ)) (twice : Bool) (keys : List KeyField) : Type 0 where
-  pub named : has_unnamed names ≡ false
-  pub fields : (if twice then None else Some keys) ≡ each_once (named_fields names)
+pub record IsRead (known : List KeyField) (names : List (List ℕ)) (twice : Bool) (keys : List KeyField) : Type 0 where
+  pub named : has_unnamed known names ≡ false
+  pub fields : (if twice then None else Some keys) ≡ each_once (named_fields known names)
 
 -- the items are followed by the name of a field, which was added to the fields or is one of them
-module _ (names : List (List ℕ)) (name : List ℕ) (field : KeyField) (twice : Bool) (keys new : List KeyField) where
+module _ (known : List KeyField) (names : List (List ℕ)) (name : List ℕ) (field : KeyField) (twice : Bool) (keys new : List KeyField) where
   one : (added here : Bool) → added ≡ not here → new ≡ (if added then keys ++ field ∷ [] else keys)
       → (if (if added then false else true) then None else Some new) ≡ (if here then None else Some (keys ++ field ∷ []))
   one true true at grown = absurd (true≢false at)
@@ -80,26 +91,26 @@ module _ (names : List (List ℕ)) (name : List ℕ) (field : KeyField) (twice :
   by true false at grown = refl
   by false added at grown = one added (list_any (same_field field) keys) at grown
 
-  pub read_more : field_named name ≡ Some field → IsRead names twice keys → (added now : Bool) → added ≡ not (list_any (same_field field) keys)
-      → new ≡ (if added then keys ++ field ∷ [] else keys) → now ≡ (if added then twice else true) → IsRead (names ++ name ∷ []) now new
+  pub read_more : field_named known name ≡ Some field → IsRead known names twice keys → (added now : Bool) → added ≡ not (list_any (same_field field) keys)
+      → new ≡ (if added then keys ++ field ∷ [] else keys) → now ≡ (if added then twice else true) → IsRead known (names ++ name ∷ []) now new
   read_more is before added now at grown flagged = record {
     named =
-        list_any-append (λ item. is_none (field_named item)) names (name ∷ []) ∙ (λ i. before.named i || (is_none (is i) || false));
+        list_any-append (λ item. is_none (field_named known item)) names (name ∷ []) ∙ (λ i. before.named i || (is_none (is i) || false));
     fields =
         ap (λ b. if b then None else Some new) flagged ∙ by twice added at grown ∙ ap (λ o. with_field o field) before.fields
-        ∙ sym (ap each_once (filter_map-append field_named names (name ∷ []) ∙ ap (λ o. named_fields names ++ cons_option o []) is)
-        ∙ fold_push with_field (Some []) (named_fields names) field);
+        ∙ sym (ap each_once (filter_map-append (field_named known) names (name ∷ []) ∙ ap (λ o. named_fields known names ++ cons_option o []) is)
+        ∙ fold_push with_field (Some []) (named_fields known names) field);
   }
 
-module _ (text : List ℕ) where
-  pub not_read : has_unnamed (items_of text) ≡ true → Err BadField ≡ keys_reading text
-  not_read unnamed = ap (λ b. if b then Err BadField else ok_or (each_once (named_fields (items_of text))) FieldRepeated) (sym unnamed)
+module _ (known : List KeyField) (text : List ℕ) where
+  pub not_read : has_unnamed known (items_of text) ≡ true → Err BadField ≡ keys_among known text
+  not_read unnamed = ap (λ b. if b then Err BadField else ok_or (each_once (named_fields known (items_of text))) FieldRepeated) (sym unnamed)
 
-  pub read_all : (names : List (List ℕ)) (twice : Bool) (keys : List KeyField) → names ≡ items_of text → IsRead names twice keys
-      → ok_or (if twice then None else Some keys) FieldRepeated ≡ keys_reading text
+  pub read_all : (names : List (List ℕ)) (twice : Bool) (keys : List KeyField) → names ≡ items_of text → IsRead known names twice keys
+      → ok_or (if twice then None else Some keys) FieldRepeated ≡ keys_among known text
   read_all names twice keys same is =
       (λ i. if sym is.named i then Err BadField else ok_or (is.fields i) FieldRepeated)
-      ∙ ap (λ items. if has_unnamed items then Err BadField else ok_or (each_once (named_fields items)) FieldRepeated) same
+      ∙ ap (λ items. if has_unnamed known items then Err BadField else ok_or (each_once (named_fields known items)) FieldRepeated) same
 
 -- the fault, if there is one
 abbrev pub fault_of : Result KeyField KeyFault → KeyFault

@@ -2,11 +2,11 @@
 use Rattle.std.proofs.Common.{if◌then◌else◌, ◌≡◌, ◌∙◌, ℕ, zero, suc, ◌<◌, inl, inr, All, Bool, true, false, true≢false, List, [], ◌∷◌, Option, length, map, refl, sym, ap, subst, arith}
 use Rattle.std.specs.Prelude.{Contains, slice_index_or}
 use Rattle.std.specs.Cmp.{IsStrictWeakOrder}
-use Rattle.std.specs.Cmp.Lexicographic.{bytes_decides, lists_ties, pointwise_decides, slice_cmp, texts_ties}
+use Rattle.std.specs.Cmp.Lexicographic.{lists_ties, slice_cmp, texts_ties}
 use Rattle.std.specs.List.Sorted.{IsSortedBy}
 use Rattle.std.specs.declared.cmp.Ordering.{Ordering}
 use Rattle.std.specs.declared.cmp.Ordering.TheVariants.{Less, Equal, Greater}
-use Rattle.std.specs.Ordering.{is_eq, is_lt, nat_cmp, ordering_reverse}
+use Rattle.std.specs.Ordering.{is_eq, is_lt, ordering_reverse}
 use Rattle.std.proofs.lemmas.Bool.{cases_lt}
 use Rattle.std.proofs.lemmas.Cmp.{lists_total, nat_list_cmp_total, on_total}
 use Rattle.std.proofs.lemmas.List.{get_or-map, length-map}
@@ -18,10 +18,9 @@ use Rattle.pmap_model.specs.MapModel.{Label}
 use Rattle.pmap_model.specs.Sorting.{in_order}
 use Rattle.pmap_model.proofs.Sorting.{in_order-sorted, map-in_order, same-in_order}
 use Rattle.flow_rows.specs.Elements.{RowView}
-use Rattle.flow_uniq.specs.Key.{Key, KeyField, key_of, part_numbers, same_key}
+use Rattle.flow_uniq.specs.Key.{Key, KeyField, compare_parts, key_of, part_numbers, same_key}
 use Rattle.flow_uniq.specs.Groups.{GroupModel, groups_of, is_before, shown_groups, totals_of}
-use Rattle.flow_uniq.specs.Grouped.{AreGrouped, compare_by, group_with, grouped, in_field, row_groups}
-use Rattle.flow_uniq.proofs.Agreeing.{compare-keys, compare_parts, same-fields, same-keys}
+use Rattle.flow_uniq.specs.Grouped.{AreGrouped, group_with, grouped, row_groups}
 use Rattle.flow_uniq.proofs.Codes.{same_key-Decides}
 use Rattle.flow_uniq.proofs.Dividing.{keyed_by, rows_with-keyed, sum_by-keyed}
 use Rattle.flow_uniq.proofs.Parting.{AreParts, having, own_rows, part_key, parts, parts-are, parts-in_order, parts-keys, parts-once}
@@ -37,19 +36,19 @@ within f [] i y (k, below, is) = absurd (omega arith)
 within f (x ∷ all) zero y has = (omega arith, λ d. has)
 within f (x ∷ all) (suc i) y has = let (below, has') = within f all i y has in (omega arith, has')
 
--- lists of texts that compare as equal are equal
-same_from : (this that : List (List ℕ)) → slice_cmp (slice_cmp nat_cmp) this that ≡ Equal → this ≡ that
-same_from this that e = (pointwise_decides bytes_decides this that).0 (lists_ties (slice_cmp nat_cmp) texts_ties this that ∙ ap is_eq e)
+-- keys tie if they are the same
+ties : (a b : Key) → same_key a b ≡ is_eq (slice_cmp compare_parts a b)
+ties a b = lists_ties compare_parts (λ p q. texts_ties (part_numbers p) (part_numbers q)) a b
 
--- of two different texts, one is before the other
-before-other : (this that : List (List ℕ)) → is_lt (slice_cmp (slice_cmp nat_cmp) that this) ≡ false → (this ≡ that → ⊥)
-    → slice_cmp (slice_cmp nat_cmp) this that ≡ Less
-before-other this that after differ = by (slice_cmp (slice_cmp nat_cmp) this that) refl
+-- of two different keys, one is before the other
+before-other : (this that : Key) → is_lt (slice_cmp compare_parts that this) ≡ false → (this ≡ that → ⊥)
+    → slice_cmp compare_parts this that ≡ Less
+before-other this that after differ = by (slice_cmp compare_parts this that) refl
   where
-    by : (o : Ordering) → slice_cmp (slice_cmp nat_cmp) this that ≡ o → slice_cmp (slice_cmp nat_cmp) this that ≡ Less
+    by : (o : Ordering) → slice_cmp compare_parts this that ≡ o → slice_cmp compare_parts this that ≡ Less
     by Less e = e
-    by Equal e = absurd (differ (same_from this that e))
-    by Greater e = absurd (true≢false (sym (ap is_lt ((lists_total nat_list_cmp_total).antisymm that this ∙ ap ordering_reverse e)) ∙ after))
+    by Equal e = absurd (differ ((same_key-Decides this that).0 (ties this that ∙ ap is_eq e)))
+    by Greater e = absurd (true≢false (sym (ap is_lt ((lists_total (on_total part_numbers nat_list_cmp_total)).antisymm that this ∙ ap ordering_reverse e)) ∙ after))
 
 module _ (label : AddressOf → Option Label) (fields : List KeyField) (rows : List RowView) where
   abbrev key : RowView → Key
@@ -90,27 +89,20 @@ module _ (label : AddressOf → Option Label) (fields : List KeyField) (rows : L
           let d : Part = (r, []) in
           let key_r : part_key key (slice_index_or all i d) ≡ key r = row-key i d r below_i (has_i d) in
           let key_s : part_key key (slice_index_or all j d) ≡ key s = row-key j d s below_j (has_j d) in
-          let this : List (List ℕ) = map (in_field label r) fields in
-          let that : List (List ℕ) = map (in_field label s) fields in
-          let one : this ≡ that → i ≡ j = λ same.
-          let e : part_key key (slice_index_or all i d) ≡ part_key key (slice_index_or all j d) = key_r ∙ same-keys label fields r s same ∙ sym key_s in
+          let one : key r ≡ key s → i ≡ j = λ same.
+          let e : part_key key (slice_index_or all i d) ≡ part_key key (slice_index_or all j d) = key_r ∙ same ∙ sym key_s in
           elim (cases_lt i j) [
             | inl less ↦ absurd (apart i j d less below_j e)
             | inr le ↦ elim (cases_lt j i) [ inl less ↦ absurd (apart j i d less below_i (sym e)) | inr ge ↦ omega arith ]
           ] in (
-            (λ same. same-fields label fields r s (sym key_r ∙ ap (λ (n : ℕ). part_key key (slice_index_or all n d)) same ∙ key_s), one),
+            (λ same. sym key_r ∙ ap (λ (n : ℕ). part_key key (slice_index_or all n d)) same ∙ key_s, one),
             λ is_sorted less.
-                let after : is_lt (slice_cmp (slice_cmp nat_cmp) that this) ≡ false =
-                sym (ap is_lt (compare-keys label fields s r)) ∙ sym (λ t. is_lt (slice_cmp compare_parts (key_s t) (key_r t)))
+                let after : is_lt (slice_cmp compare_parts (key s) (key r)) ≡ false =
+                sym (λ t. is_lt (slice_cmp compare_parts (key_s t) (key_r t)))
                 ∙ sorted_far before before-order all (up is_sorted) i j d (omega arith) below_j in
-                before-other this that after (λ e. let same : i ≡ j = one e in omega arith),
+                before-other (key r) (key s) after (λ e. let same : i ≡ j = one e in omega arith),
           );
     }
-
-  -- rows compare as their keys
-  same-rows : (r s : RowView) → same_key (key r) (key s) ≡ is_eq (compare_by label fields r s)
-  same-rows r s =
-      lists_ties compare_parts (λ p q. texts_ties (part_numbers p) (part_numbers q)) (key r) (key s) ∙ ap is_eq (compare-keys label fields r s)
 
   -- The groups are those of the parts.
 
@@ -145,8 +137,8 @@ module _ (label : AddressOf → Option Label) (fields : List KeyField) (rows : L
   shown sorted = if sorted then in_order before (parts key rows) else parts key rows
 
   shown-are : (sorted : Bool) → shown sorted ≡ row_groups label fields sorted rows
-  shown-are false = λ i. grouped (λ r s. same-rows r s i) rows
-  shown-are true = λ i. in_order (λ g h. is_lt (compare-keys label fields g.0 h.0 i)) (grouped (λ r s. same-rows r s i) rows)
+  shown-are false = λ i. grouped (λ r s. ties (key r) (key s) i) rows
+  shown-are true = λ i. in_order before (grouped (λ r s. ties (key r) (key s) i) rows)
 
   shown-grouped : (sorted : Bool) → AreGrouped label fields sorted rows (map (own_rows key) (shown sorted))
   shown-grouped false = divides (parts key rows) (parts-are key rows) false (λ e. absurd (true≢false (sym e)))

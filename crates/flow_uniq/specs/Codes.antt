@@ -1,4 +1,4 @@
-use Rattle.std.specs.Prelude.{◌≡◌, ℕ, zero, suc, ◌^◌, ◌<◌, ◌==◌, ◌++◌, ◌+◌, ◌-◌, ◌*◌, ◌/◌, ◌%◌, Bool, List}
+use Rattle.std.specs.Prelude.{◌≡◌, ℕ, zero, suc, ◌^◌, ◌<◌, ◌==◌, ◌++◌, ◌+◌, ◌-◌, ◌*◌, ◌/◌, ◌%◌, Bool, true, false, List}
 use Rattle.std.specs.Prelude.{[], ◌∷◌, Option, Some, None, IsTrue, length, take, drop, nat_lt}
 use Rattle.std.specs.Prelude.{option_and_then, option_copied, option_map, position, unwrap_or, if◌then◌else◌}
 use Rattle.std.specs.Coded.{Coded-set, Unit-prop, coded_bool, coded_list, coded_ℕ, le_prop}
@@ -21,8 +21,14 @@ use Rattle.flow_uniq.specs.Times.{precision_number}
 abbrev pub part_model : KeyPart → KeyPartModel
 part_model (part.Address addr) = AddressPart (addr.version, addr.value)
 part_model (part.Number number) = NumberPart number
+part_model (part.LargeNumber number) = NumberPart number
 part_model (part.Label label) = LabelPart (option_copied label)
 part_model (part.Time number precision) = TimePart precision number
+
+-- a number of two bytes, or a larger one, as bytes
+abbrev pub number_code : Bool → ℕ → List ℕ
+number_code true number = 2 ∷ to_be_bytes w16 number
+number_code false number = 3 ∷ to_be_bytes w32 number
 
 -- A part as bytes, which begin with its kind. Numbers have their highest byte first. A label, or an empty text if there
 -- is no label, is followed by a 0, since no label contains one. A time has one more than its number, or 0 if the
@@ -30,9 +36,9 @@ part_model (part.Time number precision) = TimePart precision number
 abbrev pub part_code : KeyPartModel → List ℕ
 part_code (AddressPart (V4, value)) = 0 ∷ to_be_bytes w32 value
 part_code (AddressPart (V6, value)) = 1 ∷ to_be_bytes w64 (value / 2 ^ 64) ++ to_be_bytes w64 (value % 2 ^ 64)
-part_code (NumberPart number) = 2 ∷ to_be_bytes w16 number
-part_code (LabelPart label) = 3 ∷ unwrap_or label [] ++ 0 ∷ []
-part_code (TimePart precision number) = 4 ∷ precision_number precision ∷ to_be_bytes w64 (option_map_or suc number 0)
+part_code (NumberPart number) = number_code (nat_lt number 65536) number
+part_code (LabelPart label) = 4 ∷ unwrap_or label [] ++ 0 ∷ []
+part_code (TimePart precision number) = 5 ∷ precision_number precision ∷ to_be_bytes w64 (option_map_or suc number 0)
 
 abbrev pub key_code : Key → List ℕ
 key_code key = flat_map part_code key
@@ -43,7 +49,7 @@ same_code a b = bytes_eq (key_code a) (key_code b)
 -- numbers fit in these bytes, and labels are well formed
 abbrev pub IsSmall : KeyPartModel → Type 0
 IsSmall (AddressPart address) = address.1 < 2 ^ width_of address.0
-IsSmall (NumberPart number) = number < 2 ^ 16
+IsSmall (NumberPart number) = number < 2 ^ 32
 IsSmall (LabelPart None) = Unit {0}
 IsSmall (LabelPart (Some text)) = IsTrue (is_label text)
 IsSmall (TimePart precision None) = Unit {0}
@@ -85,7 +91,8 @@ first_part (kind ∷ code) =
     (AddressPart (V6, from_be_bytes w64 high.0 * 2 ^ 64 + from_be_bytes w64 low.0), low.1))
     (front_bytes 8 high.1)) (front_bytes 8 code)
     else if kind == 2 then option_map (λ c. (NumberPart (from_be_bytes w16 c.0), c.1)) (front_bytes 2 code)
-    else if kind == 4 then front_time code
+    else if kind == 3 then option_map (λ c. (NumberPart (from_be_bytes w32 c.0), c.1)) (front_bytes 4 code)
+    else if kind == 5 then front_time code
     else option_map (λ c. (LabelPart c.0, c.1)) (front_label code)
 
 -- the parts that the bytes encode, up to a maximum number

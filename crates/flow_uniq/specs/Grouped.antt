@@ -1,23 +1,17 @@
 use Rattle.std.specs.Prelude.{◌≡◌, ◌<◌, ◌↔◌, ℕ, Bool, true, List, [], ◌∷◌, Option, Contains}
-use Rattle.std.specs.Prelude.{filter, if◌then◌else◌, length, map, not, slice_index_or, sum_by}
+use Rattle.std.specs.Prelude.{filter, if◌then◌else◌, length, not, slice_index_or, sum_by}
 use Rattle.std.specs.Cmp.Lexicographic.{slice_cmp}
 use Rattle.std.specs.List.{flat_map}
 use Rattle.std.specs.List.Sorted.{IsPermutation}
-use Rattle.std.specs.Option.{option_map_or}
-use Rattle.std.specs.Ordering.{is_eq, is_lt, nat_cmp}
+use Rattle.std.specs.Ordering.{is_eq, is_lt}
 use Rattle.std.specs.declared.cmp.Ordering.{Ordering}
 use Rattle.std.specs.declared.cmp.Ordering.TheVariants.{Less}
-use Rattle.prefix_keys.specs.Block.{width_of}
 use Rattle.prefix_keys.specs.Text.{AddressOf}
 use Rattle.pmap_model.specs.MapModel.{Label}
 use Rattle.pmap_model.specs.Sorting.{in_order}
 use Rattle.flow_rows.specs.Elements.{RowView}
 use Rattle.flow_uniq.specs.declared.field.KeyField.{KeyField}
-use Rattle.flow_uniq.specs.declared.field.KeyField.TheVariants.{SourceAddress, DestinationAddress}
-use Rattle.flow_uniq.specs.declared.field.KeyField.TheVariants.{SourcePort, DestinationPort, Protocol}
-use Rattle.flow_uniq.specs.declared.field.KeyField.TheVariants.{Flags, SourceLabel, DestinationLabel, Start}
-use Rattle.flow_uniq.specs.Key.{key_of}
-use Rattle.flow_uniq.specs.Times.{unit_start}
+use Rattle.flow_uniq.specs.Key.{compare_parts, key_of}
 use Rattle.flow_uniq.specs.Groups.{GroupModel}
 
 -- Rows in groups by fields.
@@ -30,24 +24,10 @@ grouped same (x ∷ xs) =
 
 -- The function gives the label of each address, if it has one.
 module _ (label : AddressOf → Option Label) where
-  -- What a row has in a field, as numbers: the width and the number of an address, a number, the number of the day,
-  -- hour or minute at which a unit of time begins, or the bytes of a label after a 0. No label and no time are no
-  -- numbers.
-  abbrev pub in_field : RowView → KeyField → List ℕ
-  in_field r SourceAddress = width_of r.version ∷ r.src ∷ []
-  in_field r DestinationAddress = width_of r.version ∷ r.dst ∷ []
-  in_field r SourcePort = r.sport ∷ []
-  in_field r DestinationPort = r.dport ∷ []
-  in_field r Protocol = r.protocol ∷ []
-  in_field r Flags = r.flags ∷ []
-  in_field r SourceLabel = option_map_or (λ t. 0 ∷ t) (label (r.version, r.src)) []
-  in_field r DestinationLabel = option_map_or (λ t. 0 ∷ t) (label (r.version, r.dst)) []
-  in_field r (Start unit) = option_map_or (λ n. n ∷ []) (unit_start unit r.start_ms) []
-
   -- how two rows compare: by what they have in the first field that differs
   abbrev pub compare_by : List KeyField → RowView → RowView → Ordering
   compare_by fields r s =
-      slice_cmp (slice_cmp nat_cmp) (map (in_field r) fields) (map (in_field s) fields)
+      slice_cmp compare_parts (key_of label fields r) (key_of label fields s)
 
   -- The groups of rows in the order of output, each as its first row and the others. The rows of a group have the same
   -- in each field. The groups are in the order of their first rows, or sorted by what these have.
@@ -64,7 +44,7 @@ module _ (label : AddressOf → Option Label) where
     pub once : IsPermutation rows (flat_map (λ g. g) groups)
     pub together : (i j : ℕ) (r s : RowView)
         → Contains (slice_index_or groups i []) r → Contains (slice_index_or groups j []) s
-        → (i ≡ j ↔ map (in_field r) fields ≡ map (in_field s) fields)
+        → (i ≡ j ↔ key_of label fields r ≡ key_of label fields s)
         × (sorted ≡ true → i < j → compare_by fields r s ≡ Less)
 
 -- Below: only contracts of parts and proofs use these; no promise of the program rests on them.

@@ -1,11 +1,11 @@
 use Rattle.std.specs.Prelude.{◌≡◌, ℕ, List, [], ◌∷◌, Option, not, length, map, filter, sum_by, Bool, if◌then◌else◌}
 use Rattle.std.specs.Cmp.Lexicographic.{slice_cmp}
-use Rattle.std.specs.Ordering.{is_lt, nat_cmp}
+use Rattle.std.specs.Ordering.{is_lt}
 use Rattle.prefix_keys.specs.Text.{AddressOf}
 use Rattle.pmap_model.specs.MapModel.{Label}
 use Rattle.pmap_model.specs.Sorting.{in_order}
 use Rattle.flow_rows.specs.Elements.{RowView}
-use Rattle.flow_uniq.specs.Key.{KeyField, Key, key_of, same_key, part_numbers}
+use Rattle.flow_uniq.specs.Key.{KeyField, Key, compare_parts, key_of, same_key}
 pub use Rattle.flow_uniq.specs.declared.groups.Totals.{Totals}
 
 -- The groups of rows by their keys, and their totals.
@@ -45,7 +45,7 @@ groups_of fields label rows = groups_of_keyed (map (λ row. (key_of label fields
 -- numbers
 abbrev pub is_before : GroupModel → GroupModel → Bool
 is_before g h =
-    is_lt (slice_cmp (λ p q. slice_cmp nat_cmp (part_numbers p) (part_numbers q)) g.key h.key)
+    is_lt (slice_cmp compare_parts g.key h.key)
 
 -- the groups in the order of output: in the order of their first rows, or sorted
 abbrev pub shown_groups : Bool → List GroupModel → List GroupModel

@@ -3,7 +3,9 @@ use Rattle.std.specs.Prelude.{find, filter_map, fold, is_none, ok_or, if◌then�
 use Rattle.std.specs.List.{list_any, slice_split}
 use Rattle.std.specs.Option.{option_map_or}
 use Rattle.std.specs.Str.{bytes_eq}
-use Rattle.std.specs.Cmp.Lexicographic.{pointwise}
+use Rattle.std.specs.Cmp.Lexicographic.{pointwise, slice_cmp}
+use Rattle.std.specs.Ordering.{nat_cmp}
+use Rattle.std.specs.declared.cmp.Ordering.{Ordering}
 use Rattle.prefix_keys.specs.Text.{AddressOf}
 use Rattle.prefix_keys.specs.Block.{width_of}
 use Rattle.pmap_model.specs.MapModel.{Label}
@@ -14,8 +16,9 @@ pub use Rattle.flow_uniq.specs.declared.field.Precision.{Precision}
 pub use Rattle.flow_uniq.specs.declared.field.Precision.TheVariants.{Day, Hour, Minute}
 use Rattle.flow_uniq.specs.Times.{precision_name, precision_number, unit_start}
 use Rattle.flow_uniq.specs.declared.field.KeyField.TheVariants.{SourceAddress, DestinationAddress}
-use Rattle.flow_uniq.specs.declared.field.KeyField.TheVariants.{SourcePort, DestinationPort, Protocol}
-use Rattle.flow_uniq.specs.declared.field.KeyField.TheVariants.{Flags, SourceLabel, DestinationLabel, Start}
+use Rattle.flow_uniq.specs.declared.field.KeyField.TheVariants.{Number, SourceLabel, DestinationLabel, Start}
+use Rattle.flow_rows.specs.declared.number.TheConstants.{MORE_NUMBERS, NUMBERS}
+use Rattle.flow_rows.specs.Numbers.{about}
 pub use Rattle.flow_uniq.specs.declared.fault.KeyFault.{KeyFault}
 pub use Rattle.flow_uniq.specs.declared.fault.KeyFault.TheVariants.{BadField, FieldRepeated, NoMemory}
 
@@ -25,20 +28,18 @@ pub use Rattle.flow_uniq.specs.declared.fault.KeyFault.TheVariants.{BadField, Fi
 abbrev pub field_name : KeyField → List ℕ
 field_name SourceAddress = codes "sip"
 field_name DestinationAddress = codes "dip"
-field_name SourcePort = codes "sport"
-field_name DestinationPort = codes "dport"
-field_name Protocol = codes "proto"
-field_name Flags = codes "flags"
+field_name (Number number) = (about number).0
 field_name SourceLabel = codes "src-label"
 field_name DestinationLabel = codes "dst-label"
 field_name (Start unit) = precision_name unit.precision
 
--- the fields that a text can name
+-- the fields that a text can name, and those with the numbers that are no columns of rows
 abbrev pub all_fields : List KeyField
 all_fields =
-    SourceAddress ∷ DestinationAddress ∷ SourcePort ∷ DestinationPort ∷ Protocol ∷ Flags
-    ∷ SourceLabel ∷ DestinationLabel
-    ∷ []
+    SourceAddress ∷ DestinationAddress ∷ map Number NUMBERS ++ SourceLabel ∷ DestinationLabel ∷ []
+
+abbrev pub many_fields : List KeyField
+many_fields = all_fields ++ map Number MORE_NUMBERS
 
 -- whether the field is a label
 abbrev pub is_label_field : KeyField → Bool
@@ -50,21 +51,23 @@ is_label_field _ = false
 abbrev pub fields_need_labels : List KeyField → Bool
 fields_need_labels fields = list_any is_label_field fields
 
--- the field with this name
-abbrev pub field_named : List ℕ → Option KeyField
-field_named text = find (λ field. bytes_eq (field_name field) text) all_fields
-
 -- the items of a text, separated by commas
 abbrev pub items_of : List ℕ → List (List ℕ)
 items_of text = slice_split (λ b. b == 44) text
 
--- whether an item is not the name of a field
-abbrev pub has_unnamed : List (List ℕ) → Bool
-has_unnamed items = list_any (λ item. is_none (field_named item)) items
+-- of known fields
+module _ (known : List KeyField) where
+  -- the field with this name
+  abbrev pub field_named : List ℕ → Option KeyField
+  field_named text = find (λ field. bytes_eq (field_name field) text) known
 
--- the fields that the items name
-abbrev pub named_fields : List (List ℕ) → List KeyField
-named_fields items = filter_map field_named items
+  -- whether an item is not the name of a field
+  abbrev pub has_unnamed : List (List ℕ) → Bool
+  has_unnamed items = list_any (λ item. is_none (field_named item)) items
+
+  -- the fields that the items name
+  abbrev pub named_fields : List (List ℕ) → List KeyField
+  named_fields items = filter_map field_named items
 
 -- whether both have the same name, and so are the same field
 abbrev pub same_field : KeyField → KeyField → Bool
@@ -80,19 +83,13 @@ with_field (Some fields) field =
 abbrev pub each_once : List KeyField → Option (List KeyField)
 each_once fields = fold with_field (Some []) fields
 
--- the result of reading a text: the fields that its items name, or its fault
-abbrev pub keys_reading : List ℕ → Result (List KeyField) KeyFault
-keys_reading text =
-    if has_unnamed (items_of text) then Err BadField
-    else ok_or (each_once (named_fields (items_of text))) FieldRepeated
+-- the result of reading a text: the known fields that its items name, or its fault
+abbrev pub keys_among : List KeyField → List ℕ → Result (List KeyField) KeyFault
+keys_among known text =
+    if has_unnamed known (items_of text) then Err BadField
+    else ok_or (each_once (named_fields known (items_of text))) FieldRepeated
 
--- Below: only contracts of parts and proofs use these; no promise of the program rests on them.
-
--- the start of a unit of time, followed by fields, if each occurs once
-abbrev pub with_unit : TimeUnit → List KeyField → Option (List KeyField)
-with_unit unit fields = fold with_field (Some (Start unit ∷ [])) fields
-
--- The key of a row.
+-- What a row has in its fields, and how it compares.
 
 -- a part of a key: an address, a number, the text of a label or none, or the number of a day, an hour or a minute or
 -- none
@@ -110,10 +107,7 @@ module _ (label : AddressOf → Option Label) where
   abbrev pub key_part : RowView → KeyField → KeyPartModel
   key_part row SourceAddress = AddressPart (row.version, row.src)
   key_part row DestinationAddress = AddressPart (row.version, row.dst)
-  key_part row SourcePort = NumberPart row.sport
-  key_part row DestinationPort = NumberPart row.dport
-  key_part row Protocol = NumberPart row.protocol
-  key_part row Flags = NumberPart row.flags
+  key_part row (Number number) = NumberPart ((about number).1.1 row)
   key_part row SourceLabel = LabelPart (label (row.version, row.src))
   key_part row DestinationLabel = LabelPart (label (row.version, row.dst))
   key_part row (Start unit) = TimePart unit.precision (unit_start unit row.start_ms)
@@ -131,6 +125,20 @@ part_numbers (NumberPart number) = 1 ∷ number ∷ []
 part_numbers (LabelPart label) = 2 ∷ option_map_or (λ text. 0 ∷ text) label []
 part_numbers (TimePart precision number) =
     3 ∷ precision_number precision ∷ option_map_or (λ n. n ∷ []) number []
+
+-- how two parts compare
+abbrev pub compare_parts : KeyPartModel → KeyPartModel → Ordering
+compare_parts p q = slice_cmp nat_cmp (part_numbers p) (part_numbers q)
+
+-- Below: only contracts of parts and proofs use these; no promise of the program rests on them.
+
+-- the result of reading a text that names fields of `flowlabel`
+abbrev pub keys_reading : List ℕ → Result (List KeyField) KeyFault
+keys_reading text = keys_among all_fields text
+
+-- the start of a unit of time, followed by fields, if each occurs once
+abbrev pub with_unit : TimeUnit → List KeyField → Option (List KeyField)
+with_unit unit fields = fold with_field (Some (Start unit ∷ [])) fields
 
 -- whether the keys have equal parts
 abbrev pub same_key : Key → Key → Bool

@@ -3,15 +3,15 @@
 ghost use Rattle.std.specs.Prelude.{bytes_eq, ◌≡◌, ◌++◌, ◌∷◌, [], IfNone, IfOk};
 ghost use Rattle.std.specs.Prelude.{IfSome, IsTrue, OnOk, option_copied, option_map};
 ghost use Rattle.std.specs.Cmp.Lexicographic.{slice_cmp};
-ghost use Rattle.std.specs.Ordering.{nat_cmp};
 ghost use Rattle.label_lookup.specs.Labelling.{label_where, labelling_borrowed};
-ghost use Rattle.flow_uniq.specs.Key.{AddressPart, key_of, key_part, part_numbers};
+ghost use Rattle.flow_rows.specs.Numbers.{about};
+ghost use Rattle.flow_uniq.specs.Key.{AddressPart, NumberPart, compare_parts, key_of, key_part};
 ghost use Rattle.flow_uniq.specs.Times.{precision_number};
 ghost use Rattle.flow_uniq.specs.Codes.{IsCode, IsCode-prop, IsSmall, first_part, front_label};
 ghost use Rattle.flow_uniq.specs.Codes.{key_code, key_in, part_code, part_model, precision_at};
 
 use crate::field::{KeyField, Precision};
-use flow_rows::Row;
+use flow_rows::{Number, Row};
 use label_lookup::{Labeller, label_row_under};
 use prefix_keys::{Addr, Version, find_byte};
 use smallvec::SmallVec;
@@ -25,8 +25,10 @@ use std::marker::Model;
 pub enum KeyPart<'a> {
     /// An address.
     Address(Addr),
-    /// A port, a protocol or flags.
+    /// A number of 16 bits, such as a port.
     Number(u16),
+    /// A number of 32 bits, such as an AS number.
+    LargeNumber(u32),
     /// The label of an address, or none.
     Label(Option<&'a [u8]>),
     /// The number of a UTC day, hour or minute, where the first of 1970 has the number 0, or none, and which of the
@@ -49,9 +51,11 @@ const IPV6: u8 = 1;
 
 const NUMBER: u8 = 2;
 
-const LABEL: u8 = 3;
+const LARGE_NUMBER: u8 = 3;
 
-const TIME: u8 = 4;
+const LABEL: u8 = 4;
+
+const TIME: u8 = 5;
 
 /// A key as bytes, which are hashed and compared in one piece. Most keys have few bytes, which are stored inline.
 #[derive(Drop)]
@@ -109,6 +113,21 @@ impl Hash for Code {
     }
 }
 
+// Returns the part for a number of the row.
+#[inline(always)]
+fn number_part<'a>(number: Number, row: &Row<'_>) -> KeyPart<'a>
+    ensures value { part_model result ≡ NumberPart ((about number).1.1 row.now) }
+    ensures small { IsSmall (part_model result) }
+{
+    match number {
+        Number::SourcePort => KeyPart::Number(row.sport()),
+        Number::DestinationPort => KeyPart::Number(row.dport()),
+        Number::Protocol => KeyPart::Number(u16::from(row.protocol())),
+        Number::Flags => KeyPart::Number(row.flags()),
+        _ => KeyPart::LargeNumber(row.number(number)),
+    }
+}
+
 // Returns the part for this field of the row. The field is borrowed: a copy would read a unit of time at each field.
 fn part_of<'a, L: Labeller>(field: &KeyField, row: &Row<'_>, labeller: Option<&'a L>) -> KeyPart<'a>
     ensures value { let label = label_where (labelling_borrowed L.version_of L.label labeller.entry) in
@@ -118,10 +137,7 @@ fn part_of<'a, L: Labeller>(field: &KeyField, row: &Row<'_>, labeller: Option<&'
     match field {
         KeyField::SourceAddress => KeyPart::Address(row.src()),
         KeyField::DestinationAddress => KeyPart::Address(row.dst()),
-        KeyField::SourcePort => KeyPart::Number(row.sport()),
-        KeyField::DestinationPort => KeyPart::Number(row.dport()),
-        KeyField::Protocol => KeyPart::Number(u16::from(row.protocol())),
-        KeyField::Flags => KeyPart::Number(row.flags()),
+        KeyField::Number(number) => number_part(*number, row),
         KeyField::SourceLabel => KeyPart::Label(label_row_under(labeller, row.src())),
         KeyField::DestinationLabel => KeyPart::Label(label_row_under(labeller, row.dst())),
         KeyField::Start(unit) => KeyPart::Time(unit.start_of(row.start_ms()), unit.precision),
@@ -145,6 +161,27 @@ fn append_address(out: &mut Vec<u8>, addr: Addr) -> Result<(), AllocError>
         }
     }
     Ok(())
+}
+
+// Appends the bytes of a number of 16 bits. If an allocation fails, some of them may have been appended.
+#[inline(always)]
+fn append_number(out: &mut Vec<u8>, number: u16) -> Result<(), AllocError>
+    ensures { OnOk result (out.new.items ≡ out.old.items ++ part_code (NumberPart number)) }
+{
+    let [high, low] = number.to_be_bytes();
+    out.extend_from_slice(&[NUMBER, high, low])
+}
+
+// Like `append_number`, but of 32 bits. Out of line, since few keys have such a number.
+#[inline(never)]
+fn append_large_number(out: &mut Vec<u8>, number: u32) -> Result<(), AllocError>
+    ensures { OnOk result (out.new.items ≡ out.old.items ++ part_code (NumberPart number)) }
+{
+    if number < 65536 {
+        return append_number(out, number as u16);
+    }
+    let [a, b, c, d] = number.to_be_bytes();
+    out.extend_from_slice(&[LARGE_NUMBER, a, b, c, d])
 }
 
 // Returns the byte for how exact a time is.
@@ -179,10 +216,8 @@ fn append_part(out: &mut Vec<u8>, part: KeyPart<'_>) -> Result<(), AllocError>
 {
     match part {
         KeyPart::Address(addr) => append_address(out, addr)?,
-        KeyPart::Number(number) => {
-            let [high, low] = number.to_be_bytes();
-            out.extend_from_slice(&[NUMBER, high, low])?;
-        }
+        KeyPart::Number(number) => append_number(out, number)?,
+        KeyPart::LargeNumber(number) => append_large_number(out, number)?,
         KeyPart::Label(label) => {
             out.push(LABEL)?;
             out.extend_from_slice(label.unwrap_or(b""))?;
@@ -279,6 +314,10 @@ fn first_part(code: &[u8]) -> Option<(KeyPart<'_>, &[u8])>
             let (number, rest) = code.split_first_chunk()?;
             Some((KeyPart::Number(u16::from_be_bytes(*number)), rest))
         }
+        LARGE_NUMBER => {
+            let (number, rest) = code.split_first_chunk()?;
+            Some((KeyPart::LargeNumber(u32::from_be_bytes(*number)), rest))
+        }
         TIME => {
             let (precision, code) = code.split_first()?;
             let (number, rest) = code.split_first_chunk()?;
@@ -323,8 +362,7 @@ impl<'a> Key<'a> {
 /// same way.
 pub fn compare_keys(a: Key<'_>, b: Key<'_>) -> Ordering
     ensures { result
-        ≡ slice_cmp (λ p q. slice_cmp nat_cmp (part_numbers p) (part_numbers q))
-        (key_in a.entry.code.now) (key_in b.entry.code.now) }
+        ≡ slice_cmp compare_parts (key_in a.entry.code.now) (key_in b.entry.code.now) }
 {
     a.code.cmp(b.code)
 }

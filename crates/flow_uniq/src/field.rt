@@ -1,6 +1,8 @@
 ghost use Rattle.std.specs.Prelude.{◌≡◌, ◌<◌, option_map};
 ghost use Rattle.std.specs.Coded.{le_prop};
 
+use flow_rows::Number;
+
 /// How exact a time is.
 #[derive(Clone, Copy)]
 pub enum Precision {
@@ -105,14 +107,8 @@ pub enum KeyField {
     SourceAddress,
     /// `dip`: the destination address.
     DestinationAddress,
-    /// `sport`: the source port.
-    SourcePort,
-    /// `dport`: the destination port.
-    DestinationPort,
-    /// `proto`: the number of the protocol above IP.
-    Protocol,
-    /// `flags`: the union of the TCP flags of all packets.
-    Flags,
+    /// A number of up to 32 bits, such as `sport`.
+    Number(Number),
     /// `src-label`: the label of the source address.
     SourceLabel,
     /// `dst-label`: the label of the destination address.
@@ -121,16 +117,33 @@ pub enum KeyField {
     Start(TimeUnit),
 }
 
-/// All fields that a text can name.
+/// The fields that `flowlabel` knows.
 pub const ALL_FIELDS: [KeyField; 8] = [
     KeyField::SourceAddress,
     KeyField::DestinationAddress,
-    KeyField::SourcePort,
-    KeyField::DestinationPort,
-    KeyField::Protocol,
-    KeyField::Flags,
+    KeyField::Number(Number::SourcePort),
+    KeyField::Number(Number::DestinationPort),
+    KeyField::Number(Number::Protocol),
+    KeyField::Number(Number::Flags),
     KeyField::SourceLabel,
     KeyField::DestinationLabel,
+];
+
+/// All fields that a text can name: `ALL_FIELDS`, and the numbers that are no columns of rows.
+pub const MANY_FIELDS: [KeyField; 13] = [
+    KeyField::SourceAddress,
+    KeyField::DestinationAddress,
+    KeyField::Number(Number::SourcePort),
+    KeyField::Number(Number::DestinationPort),
+    KeyField::Number(Number::Protocol),
+    KeyField::Number(Number::Flags),
+    KeyField::SourceLabel,
+    KeyField::DestinationLabel,
+    KeyField::Number(Number::InputInterface),
+    KeyField::Number(Number::OutputInterface),
+    KeyField::Number(Number::Vlan),
+    KeyField::Number(Number::SourceAs),
+    KeyField::Number(Number::DestinationAs),
 ];
 
 impl KeyField {
@@ -143,10 +156,7 @@ impl KeyField {
         match self {
             KeyField::SourceAddress => "sip",
             KeyField::DestinationAddress => "dip",
-            KeyField::SourcePort => "sport",
-            KeyField::DestinationPort => "dport",
-            KeyField::Protocol => "proto",
-            KeyField::Flags => "flags",
+            KeyField::Number(number) => number.name(),
             KeyField::SourceLabel => "src-label",
             KeyField::DestinationLabel => "dst-label",
             KeyField::Start(unit) => unit.precision.name(),

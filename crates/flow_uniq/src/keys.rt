@@ -1,6 +1,6 @@
 ghost use Rattle.std.specs.Prelude.{◌≡◌, ◌++◌, ◌∷◌, [], if◌then◌else◌, not};
 ghost use Rattle.std.specs.List.{list_any};
-ghost use Rattle.flow_uniq.specs.Key.{field_named, keys_reading, fields_need_labels, same_field, with_unit};
+ghost use Rattle.flow_uniq.specs.Key.{field_named, fields_need_labels, keys_among, keys_reading, same_field, with_unit};
 
 use crate::fault::KeyFault;
 use crate::field::{ALL_FIELDS, KeyField, TimeUnit};
@@ -10,7 +10,7 @@ use std::marker::Model;
 /// The fields of keys, each once.
 #[derive(Drop)]
 pub struct Keys {
-    fields: ArrayVec<KeyField, 11>,
+    fields: ArrayVec<KeyField, 16>,
 }
 
 impl Model for Keys {
@@ -25,14 +25,11 @@ impl Model for Keys {
     ghost invariant = { λ k. IsDistinct same_field k.fields.items };
 }
 
-// Returns the field with this name.
-fn field_named(text: &str) -> Option<KeyField>
-    ensures { result ≡ field_named text.now }
+// Returns the known field with this name.
+fn field_named(known: &[KeyField], text: &str) -> Option<KeyField>
+    ensures { result ≡ field_named known.now text.now }
 {
-    ALL_FIELDS
-        .iter()
-        .copied()
-        .find(|field| field.name() == text)
+    known.iter().copied().find(|field| field.name() == text)
 }
 
 impl Keys {
@@ -52,7 +49,8 @@ impl Keys {
         true
     }
 
-    /// Reads the fields that the items of a text name, in order. Items are separated by commas. Nothing is allocated.
+    /// Reads the fields of `ALL_FIELDS` that the items of a text name, in order. Items are separated by commas. Nothing
+    /// is allocated.
     ///
     /// # Errors
     ///
@@ -60,12 +58,19 @@ impl Keys {
     pub fn read(text: &str) -> Result<Keys, KeyFault>
         ensures { result ≡ keys_reading text.now }
     {
+        Keys::read_among(&ALL_FIELDS, text)
+    }
+
+    /// Like [`Keys::read`], but the items name known fields, such as those of `MANY_FIELDS`.
+    pub fn read_among(known: &[KeyField], text: &str) -> Result<Keys, KeyFault>
+        ensures { result ≡ keys_among known.now text.now }
+    {
         let mut keys = Keys {
             fields: ArrayVec::new(),
         };
         let mut repeated = false;
         for name in text.split(',') {
-            let field = field_named(name).ok_or(KeyFault::BadField)?;
+            let field = field_named(known, name).ok_or(KeyFault::BadField)?;
             if !keys.add(field) {
                 repeated = true;
             }

@@ -28,7 +28,7 @@ mod recent;
 
 pub use codec::{Key, KeyPart};
 pub use fault::KeyFault;
-pub use field::{KeyField, Precision, TimeUnit};
+pub use field::{ALL_FIELDS, KeyField, MANY_FIELDS, Precision, TimeUnit};
 pub use groups::{Group, Groups, Totals};
 pub use keys::Keys;
 pub use laws::{

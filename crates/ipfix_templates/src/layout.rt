@@ -9,21 +9,27 @@ use crate::field::Field;
 /// The information elements of a row (RFC 7012, and IANA's registry of IPFIX elements) by their numbers, each with the
 /// minimum and the maximum length of its field. A number may be sent in fewer bytes than its type has (RFC 7011 section
 /// 6.2).
-pub const ELEMENTS: [(u16, (u16, u16)); 14] = [
+pub const ELEMENTS: [(u16, (u16, u16)); 20] = [
     (1, (1, 8)), // octetDeltaCount
     (2, (1, 8)), // packetDeltaCount
     (4, (1, 1)), // protocolIdentifier
     (6, (1, 2)), // tcpControlBits
     (7, (1, 2)), // sourceTransportPort
     (8, (4, 4)), // sourceIPv4Address
+    (10, (1, 4)), // ingressInterface
     (11, (1, 2)), // destinationTransportPort
     (12, (4, 4)), // destinationIPv4Address
+    (14, (1, 4)), // egressInterface
+    (16, (1, 4)), // bgpSourceAsNumber
+    (17, (1, 4)), // bgpDestinationAsNumber
     (27, (16, 16)), // sourceIPv6Address
     (28, (16, 16)), // destinationIPv6Address
+    (58, (1, 2)), // vlanId
     (85, (1, 8)), // octetTotalCount
     (86, (1, 8)), // packetTotalCount
     (152, (8, 8)), // flowStartMilliseconds
     (153, (8, 8)), // flowEndMilliseconds
+    (243, (1, 2)), // dot1qVlanId
 ];
 
 /// The enterprise number of the elements of the reverse direction (RFC 5103 section 6.1).
@@ -56,6 +62,16 @@ pub struct Places {
     pub protocol: Place,
     /// The TCP flags.
     pub flags: Place,
+    /// The interface by which the packets came in.
+    pub in_if: Place,
+    /// The interface by which they went out.
+    pub out_if: Place,
+    /// The VLAN.
+    pub vlan: Place,
+    /// The AS of the source.
+    pub src_as: Place,
+    /// The AS of the destination.
+    pub dst_as: Place,
     /// The number of packets.
     pub packets: Place,
     /// The number of bytes of the packets.
@@ -161,6 +177,11 @@ fn places_between(is_v4: bool, src: Place, dst: Place, fields: &[Field]) -> Plac
         dport: place_of(None, 11, fields),
         protocol: place_of(None, 4, fields),
         flags: place_of(None, 6, fields),
+        in_if: place_of(None, 10, fields),
+        out_if: place_of(None, 14, fields),
+        vlan: place_of(None, 58, fields).or(place_of(None, 243, fields)),
+        src_as: place_of(None, 16, fields),
+        dst_as: place_of(None, 17, fields),
         packets: place_of(None, 2, fields).or(place_of(None, 86, fields)),
         octets: place_of(None, 1, fields).or(place_of(None, 85, fields)),
         start_ms: place_of(None, 152, fields),
@@ -201,6 +222,11 @@ fn second_places(first: &Places, fields: &[Field]) -> Places
         dport: first.sport,
         protocol: first.protocol,
         flags: place_of(direction, 6, fields),
+        in_if: first.out_if,
+        out_if: first.in_if,
+        vlan: first.vlan,
+        src_as: first.dst_as,
+        dst_as: first.src_as,
         packets: place_of(direction, 2, fields).or(place_of(direction, 86, fields)),
         octets: place_of(direction, 1, fields).or(place_of(direction, 85, fields)),
         start_ms: place_of(direction, 152, fields).or(first.start_ms),

@@ -32,6 +32,13 @@ abbrev pub title_line : Bool → Line
 title_line false = row_titles
 title_line true = row_titles ++ label_titles
 
+-- the text of a part of a key, which is empty for a missing label
+abbrev pub part_text : KeyPartModel → Text
+part_text (AddressPart address) = address_text address.0 address.1
+part_text (NumberPart number) = decimal number
+part_text (LabelPart label) = unwrap_or label []
+part_text (TimePart precision number) = time_text precision number
+
 -- The header of groups.
 
 -- the column names of groups by these fields, and of their totals
@@ -106,13 +113,6 @@ abbrev pub labels_of_row : Option (List LabelTexts) → ℕ → Option LabelText
 labels_of_row labels index = option_map (λ texts. slice_index_or texts index (None, None)) labels
 
 -- How groups are printed.
-
--- the text of a part of a key, which is empty for a missing label
-abbrev pub part_text : KeyPartModel → Text
-part_text (AddressPart address) = address_text address.0 address.1
-part_text (NumberPart number) = decimal number
-part_text (LabelPart label) = unwrap_or label []
-part_text (TimePart precision number) = time_text precision number
 
 -- the fields of a group's line
 abbrev pub group_fields : GroupModel → Line

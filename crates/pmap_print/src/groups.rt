@@ -80,6 +80,7 @@ fn part_length(part: KeyPart<'_>) -> u8
     match part {
         KeyPart::Address(addr) => address_length(addr),
         KeyPart::Number(number) => number_length(u64::from(number)),
+        KeyPart::LargeNumber(number) => number_length(u64::from(number)),
         KeyPart::Label(label) => label.unwrap_or(b"").len() as u8,
         KeyPart::Time(number, precision) => time_length(precision, number),
     }
@@ -98,6 +99,7 @@ fn print_part<S: Sink, const PADDED: bool>(
     match part {
         KeyPart::Address(addr) => push_address(out, width, b'|', addr),
         KeyPart::Number(number) => push_number(out, width, b'|', u64::from(number)),
+        KeyPart::LargeNumber(number) => push_number(out, width, b'|', u64::from(number)),
         KeyPart::Label(label) => push_field(out, width, b'|', label.unwrap_or(b"")),
         KeyPart::Time(number, precision) => push_time(out, width, b'|', precision, number),
     }

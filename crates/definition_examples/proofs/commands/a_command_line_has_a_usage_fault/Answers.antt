@@ -57,6 +57,10 @@ pub returns-clause-an_unknown_field : goal.returns-clause-an_unknown_field
 unfolding flowlabel_app clap_on_literals opened
 returns-clause-an_unknown_field c = (refl, refl)
 
+pub returns-clause-a_field_of_flowlabel_many : goal.returns-clause-a_field_of_flowlabel_many
+unfolding flowlabel_app clap_on_literals opened
+returns-clause-a_field_of_flowlabel_many c = (refl, refl)
+
 pub returns-clause-a_field_twice : goal.returns-clause-a_field_twice
 unfolding flowlabel_app clap_on_literals opened
 returns-clause-a_field_twice c = (refl, refl)

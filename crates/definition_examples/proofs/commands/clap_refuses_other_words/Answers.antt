@@ -21,6 +21,10 @@ pub returns-clause-another_option : goal.returns-clause-another_option
 unfolding flowlabel_app clap_on_literals opened
 returns-clause-another_option c = refl
 
+pub returns-clause-an_option_of_flowlabel_many : goal.returns-clause-an_option_of_flowlabel_many
+unfolding flowlabel_app clap_on_literals opened
+returns-clause-an_option_of_flowlabel_many c = refl
+
 pub returns-clause-no_address : goal.returns-clause-no_address
 unfolding flowlabel_app clap_on_literals opened
 returns-clause-no_address c = refl

@@ -5,7 +5,7 @@ use Rattle.clap.specs.Words.{Text, first_of, found_of, rows_of}
 use Rattle.pmap_model.specs.Steps.{◌>>=◌}
 use Rattle.flow_uniq.specs.declared.field.KeyField.{KeyField}
 use Rattle.flow_files.specs.Answer.{fields_reading}
-use Rattle.flow_uniq.specs.Key.{with_unit}
+use Rattle.flow_uniq.specs.Key.{many_fields, with_unit}
 use Rattle.flow_uniq.specs.declared.field.Precision.{Precision}
 use Rattle.flow_files.specs.declared.usage.UsageFault.{UsageFault}
 use Rattle.flow_files.specs.declared.usage.UsageFault.TheVariants.{Unit as BadUnit}
@@ -27,12 +27,12 @@ returns-in_ok-read_keys-in-Some-names c =
     sym c.first_text-names.ensures ∙ ap (option_map (λ (s : Bor Text). s.now)) c.in-Some-names.is in
     let keys = c.in_ok-read_keys-in-Some-names.field-0 in
     let unit = c.in_ok-unit.unit in
-    let reads : fields_reading c.in-Some-names.names.now ≡ Ok keys = c.in_ok-read_keys-in-Some-names.ensures in
+    let reads : fields_reading many_fields c.in-Some-names.names.now ≡ Ok keys = c.in_ok-read_keys-in-Some-names.ensures in
     let named = unit_is c.unit_named.result (unit_named c.in-Some.by.now) unit c.unit_named.ensures (ok_some c.unit_named.result _ unit (sym c.ok_or-2.ensures.value ∙ c.in_ok-unit.was)) in
     with_time_is unit keys c.fields.result.now c.with_time.result (keys_in_rows (rows_of (found_of c.args.entries.now))) c.with_time.ensures
     (ap (with_unit unit) c.fields.ensures ∙ with_unit_is unit c.in-Some-names.names.now keys reads)
     ((λ i. keys_answer (by i) (names i))
-    ∙ ap (λ (o : Option (Precision × ℕ)). ok_or o BadUnit >>= (λ u. fields_reading c.in-Some-names.names.now >>= (λ fields. Ok (timed u fields)))) named
+    ∙ ap (λ (o : Option (Precision × ℕ)). ok_or o BadUnit >>= (λ u. fields_reading many_fields c.in-Some-names.names.now >>= (λ fields. Ok (timed u fields)))) named
     ∙ ap (λ (r : Result (List KeyField) UsageFault). r >>= (λ fields. Ok (timed (unit.precision, unit.count) fields))) reads)
 
 pub returns-in-None : goal.returns-in-None

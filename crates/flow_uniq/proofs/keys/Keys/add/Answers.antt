@@ -4,7 +4,7 @@ use Rattle.std.specs.List.{IsDistinct, list_any}
 use Rattle.std.proofs.lemmas.Iterator.{YieldsList-from_slice}
 use Rattle.std.proofs.lemmas.Iterator.Search.{any_from_yields_List}
 use Rattle.flow_uniq.specs.Key.{same_field}
-use Rattle.flow_uniq.proofs.Reading.{at_most_eleven, once_more}
+use Rattle.flow_uniq.proofs.Reading.{at_most_sixteen, once_more}
 use Rattle.flow_uniq.proofs.keys.Keys.add.Goals as goal
 use Rattle.flow_uniq.proofs.keys.Keys.add.Goals.{After-any}
 
@@ -19,7 +19,7 @@ returns-then-any-clause-new c = ap not (sym c.if-any.true ∙ is_there (goal.at.
 pub push-requires : goal.push-requires
 push-requires c = (
   omega arith,
-  at_most_eleven c.self.inside.fields.items c.args.field c.self.invariant
+  at_most_sixteen c.self.inside.fields.items c.args.field c.self.invariant
       (ap (list_any (same_field c.args.field)) c.self.view_is ∙ sym (is_there (goal.at.push-requires c).After-any) ∙ c.if-any.false),
 )
 
