@@ -5,6 +5,7 @@
 _flowlabel_options() {
     local filters='--protocol --sport --dport --saddress --daddress --packets --bytes'
     filters+=' --src-label --dst-label --any-label'
+    local numbers='--in-if --out-if --vlan --src-as --dst-as'
     case $1 in
     label | cat) echo --pmap --list --help ;;
     info) echo --help ;;
@@ -13,16 +14,17 @@ _flowlabel_options() {
     shrink) echo --pmap --certificate --compact --help ;;
     check) echo --pmap --list --cert --help ;;
     recert) echo --cert --help ;;
-    sum) echo --by --fields --pmap --list "$filters" --allow-skipped --columns --help ;;
+    sum) echo --by --fields --pmap --list "$filters" "$numbers" --allow-skipped --columns --help ;;
     messages) echo --help ;;
     esac
 }
 
 # The fields that may follow the last comma of a list of fields, or be the first field.
 _flowlabel_fields() {
-    local begun='' field
+    local begun='' field more=''
     [[ $1 != *,* ]] || begun=${1%,*},
-    for field in sip dip sport dport proto flags src-label dst-label; do
+    [[ ${COMP_WORDS[0]} != *-many ]] || more='in-if out-if vlan src-as dst-as'
+    for field in sip dip sport dport proto flags src-label dst-label $more; do
         [[ ,$begun == *,$field,* ]] || echo "$begun$field"
     done
 }
@@ -77,6 +79,7 @@ _flowlabel() {
     --fields) mapfile -t COMPREPLY < <(compgen -W "$(_flowlabel_fields "$word")" -- "$word") ;;
     --pmap | --list | --cert) mapfile -t COMPREPLY < <(compgen -f -- "$word") ;;
     --protocol | --sport | --dport | --saddress | --daddress | --packets | --bytes) ;;
+    --in-if | --out-if | --vlan | --src-as | --dst-as) ;;
     --src-label | --dst-label | --any-label) _flowlabel_label "$word" ;;
     *)
         case $word in

@@ -19,7 +19,7 @@ end
 # The fields that the word of `--fields` doesn't have yet, after those that it has.
 function __flowlabel_fields
     set -l begun (commandline -tc | string replace -r '^--fields=' '' | string replace -r '[^,]*$' '')
-    for field in sip dip sport dport proto flags src-label dst-label
+    for field in sip dip sport dport proto flags src-label dst-label $argv
         contains -- $field (string split , -- $begun); or echo $begun$field
     end
 end
@@ -75,7 +75,7 @@ complete -c flowlabel-many -n "not $of $commands" -a messages -d 'Print what eac
 
 complete -c flowlabel-many -n "$of sum" -l by -x -d 'The unit of time to sum by' -a 'day hour minute 15m 5m'
 complete -c flowlabel-many -n "$of sum" -l fields -x -d 'The fields to sum by' \
-    -a '(__flowlabel_fields)'
+    -a '(__flowlabel_fields in-if out-if vlan src-as dst-as)'
 complete -c flowlabel-many -n "$of sum" -l pmap -r -F -d 'The prefix map'
 complete -c flowlabel-many -n "$of sum" -l list -r -F -d 'The prefix list'
 complete -c flowlabel-many -n "$of sum" -l allow-skipped -d 'Take Files with data sets that have no template'
@@ -93,6 +93,11 @@ complete -c flowlabel-many -n "$of sum" -l dst-label -x -d 'Flows whose destinat
     -a '(__flowlabel_labels)'
 complete -c flowlabel-many -n "$of sum" -l any-label -x -d 'Flows whose source or destination has this label' \
     -a '(__flowlabel_labels)'
+complete -c flowlabel-many -n "$of sum" -l in-if -x -d 'Flows that came in by these interfaces'
+complete -c flowlabel-many -n "$of sum" -l out-if -x -d 'Flows that went out by these interfaces'
+complete -c flowlabel-many -n "$of sum" -l vlan -x -d 'Flows of these VLANs'
+complete -c flowlabel-many -n "$of sum" -l src-as -x -d 'Flows from these AS numbers'
+complete -c flowlabel-many -n "$of sum" -l dst-as -x -d 'Flows to these AS numbers'
 complete -c flowlabel-many -n "$of sum" -l columns -d 'Pad the fields to columns'
 
 # The options that a command's help lists, at the beginnings of lines.

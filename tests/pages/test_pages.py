@@ -57,10 +57,10 @@ LIMITS = (
     ("messages", r"(?:more than (\d[\d,]*) messages|\| (\d[\d,]*) messages precede)", "ipfix_read/specs/Message.antt",
      r"nat_lt count (\d+)\) then Some TooManyMessages"),
     ("cost of a node", r"cost of at most (\d+)", "flow_files/specs/Reports.antt", r"length placed < (\d+)"),
-    ("protocol", r"at most (\d+) for the protocol", "flow_filter/specs/Condition.antt",
-     r"row\.protocol\) false (\d+)"),
-    ("port", r"and (\d[\d,]*) for a port", "flow_filter/specs/Condition.antt",
-     r"row\.sport\) false (\d+)"),
+    ("protocol", r"at most (\d+) for the protocol", "flow_rows/specs/Numbers.antt",
+     r"^about Protocol = \(codes \"proto\", \((\d+),"),
+    ("port", r"and (\d[\d,]*) for a port", "flow_rows/specs/Numbers.antt",
+     r"^about SourcePort = \(codes \"sport\", \((\d+),"),
 )
 # Numbers of four or more digits that no definition has.
 OTHER_NUMBERS = {
@@ -300,9 +300,9 @@ class Fields(Beside):
     """Fields, columns and the lines of `info` on pages and in completions are the program's."""
 
     @classmethod
-    def fields(cls):
-        """Returns the fields of `uniq` in the order of its help."""
-        text = " ".join(help_of("uniq").split())
+    def fields(cls, command="uniq"):
+        """Returns the fields of a command in the order of its help."""
+        text = " ".join(help_of(command).split())
         return re.search(r"sum by, such as [^:]*: ((?:[a-z-]+, )*[a-z-]+)", text)[1].split(", ")
 
     def test_each_is_taken(self):
@@ -313,11 +313,17 @@ class Fields(Beside):
 
     @rows(("docs/FORMATS.md", r"(?s)NAMES are some of(.*?)separated by", r"`([a-z-]+)`"),
           ("man/flowlabel.1", r"(?s)\.It Fl -fields Ar names\n(.*?)\.It ", r"(?m)^\.Cm ([a-z-]+)"),
-          ("man/flowlabel-many.1", r"(?s)\.It Fl -fields Ar names\n(.*?)\.It ", r"(?m)^\.Cm ([a-z-]+)"),
-          (BASH, r"for field in (.*); do", r"\S+"), (ZSH, r"-s , field (.*)", r"\S+"),
-          (FISH, r"for field in (.*)", r"\S+"))
-    def test_list(self, name, part, field):
-        self.assertEqual(re.findall(field, re.search(part, read(name))[1]), self.fields())
+          ("man/flowlabel-many.1", r"(?s)\.It Fl -fields Ar names\n(.*?)\.It ", r"(?m)^\.Cm ([a-z-]+)", "sum"),
+          (BASH, r"for field in (.*) \$more; do", r"\S+"), (ZSH, r"-s , field (.*) \$more", r"\S+"),
+          (FISH, r"for field in (.*) \$argv", r"\S+"))
+    def test_list(self, name, part, field, command="uniq"):
+        self.assertEqual(re.findall(field, re.search(part, read(name))[1]), self.fields(command))
+
+    @rows((BASH, r"-many \]\] \|\| more='(.*)'"), (ZSH, r"-many \]\] \|\| more=\((.*)\)"),
+          (FISH, r"\(__flowlabel_fields ([^)]+)\)"))
+    def test_more_of_many(self, name, part):
+        self.assertEqual(re.search(part, read(name))[1].split(),
+                         [field for field in self.fields("sum") if field not in self.fields()])
 
     @rows(*((page,) for page in PAGES))
     def test_page(self, page):
@@ -335,7 +341,8 @@ class Fields(Beside):
 
 def options_of_manual(program):
     """Returns the options of each command in the synopsis of a program's manual."""
-    commands, filters = {}, set(options_of(help_of("rows"))) - {"pmap", "list", "columns", "help"}
+    others = {"pmap", "list", "columns", "help", "by", "fields", "allow-skipped"}
+    commands, filters = {}, set(options_of(help_of("rows" if program == "flowlabel" else "sum"))) - others
     for part in read(f"man/{program}.1").split(".Sh SYNOPSIS")[1].split(".Sh")[0].split(".Nm\n")[1:]:
         if found := re.match(r"\.Cm ([a-z]+)", part):
             options = set(re.findall(r"Fl -([a-z-]+)", part)) | {"help"}
@@ -346,9 +353,10 @@ def options_of_manual(program):
 def options_of_bash(program):
     """Returns the options of each command of a program that bash completes."""
     text, commands = read(BASH), {}
-    filters = set(re.findall(r"--([a-z-]+)", "".join(re.findall(r"filters\+?='(.*)'", text))))
+    lists = {name: set(re.findall(r"--([a-z-]+)", "".join(re.findall(rf"{name}\+?='(.*)'", text))))
+             for name in ("filters", "numbers")}
     for names, words in re.findall(r"(?m)^    ([a-z| ]+)\) echo (.*) ;;", text):
-        options = set(re.findall(r"--([a-z-]+)", words)) | (filters if "$filters" in words else set())
+        options = set(re.findall(r"--([a-z-]+)", words)).union(*(lists[name] for name in re.findall(r"\$(\w+)", words)))
         commands.update({name: options for name in names.split(" | ") if name in COMMANDS_OF[program]})
     return commands
 
