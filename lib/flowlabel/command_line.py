@@ -12,7 +12,8 @@ if TYPE_CHECKING:
 
 # The options of flowlabel and flowlabel-many that commands pass on, with what they take and what help says of them.
 PASSED = {
-    "fields": ("NAME,..", "sums by these fields: sip, dip, sport, dport, proto, flags, src-label, dst-label"),
+    "fields": ("NAME,..", "sums by these fields: sip, dip, sport, dport, proto, flags, in-if, out-if, vlan, src-as, "
+               "dst-as, src-label, dst-label"),
     "pmap": ("MAP", "the labels of addresses are those of this prefix map"),
     "list": ("LIST", "the labels of addresses are those of this prefix list"),
     "protocol": ("NUMBERS", "only flows of these protocols, such as 6,17 or 1-16"),
@@ -25,6 +26,11 @@ PASSED = {
     "src-label": ("LABEL", "only flows whose source has this label"),
     "dst-label": ("LABEL", "only flows whose destination has this label"),
     "any-label": ("LABEL", "only flows whose source or destination has this label"),
+    "in-if": ("NUMBERS", "only flows that came in by these interfaces"),
+    "out-if": ("NUMBERS", "only flows that went out by these interfaces"),
+    "vlan": ("NUMBERS", "only flows of these VLANs"),
+    "src-as": ("NUMBERS", "only flows from these AS numbers"),
+    "dst-as": ("NUMBERS", "only flows to these AS numbers"),
 }
 
 

@@ -28,7 +28,8 @@ CURES = {
     b"L1": "write numbers, such as 443 or 6,17 or 1-1023: names such as https or tcp aren't known",
     b"L2": "write a range of whole numbers, such as 1500 or 1500- or 0-1500",
     b"L3": "write addresses or blocks, such as 10.0.0.0/8,2001:db8::1",
-    b"U1": "the fields are sip, dip, sport, dport, proto, flags, src-label and dst-label",
+    b"U1": "the fields are sip, dip, sport, dport, proto, flags, src-label and dst-label, and in sums of many Files also "
+           "in-if, out-if, vlan, src-as and dst-as",
     b"P5": "name the map with --pmap or the list with --list",
     b"F": "flowlabel-audit FILE says what the file is, and the cure",
     b"M": "flowlabel-lint MAP, or --list LIST, prints the usual cause and the cure",

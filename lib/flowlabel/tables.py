@@ -19,7 +19,7 @@ if TYPE_CHECKING:
 Chunk = list[list[bytes]]
 # The columns of tables of sums: addresses, labels, other fields, times and totals.
 ADDRESSES, LABELS = [b"sip", b"dip"], [b"src-label", b"dst-label"]
-FIELDS = (*ADDRESSES, *LABELS, b"sport", b"dport", b"proto", b"flags")
+FIELDS = (*ADDRESSES, *LABELS, *b"sport dport proto flags in-if out-if vlan src-as dst-as".split())
 TIMES = {name: re.compile(rb"0|(\d{4,})-\d\d-\d\d" + end)
          for name, end in ((b"minute", rb"T\d\d:\d\d(?:Z|(.+))"), (b"hour", rb"T\d\d(?:Z|(.+))"), (b"day", b"()"))}
 TOTALS = [b"records", b"packets", b"bytes"]

@@ -657,6 +657,50 @@ class Parallel(Case):
         processes.wait(lambda: not os.path.exists(f"/proc/{read('begun').strip()}"))
 
 
+# Interfaces, a VLAN and AS numbers of two flows, in the order of their elements 10, 14, 58, 16 and 17.
+NUMBERS = struct.Struct(">IIHII")
+NUMBERED = message(template(256, *FOUR, *SUMS, START, (10, 4), (14, 4), (58, 2), (16, 4), (17, 4)), sets(256, b"".join((
+    flow(), NUMBERS.pack(1, 2**32 - 1, 7, 64496, 4200000000),
+    flow(octets=40), NUMBERS.pack(3, 2**32 - 1, 4095, 64496, 0)))))
+
+
+class Numbers(Case):
+    """Sums by interface, VLAN and AS number, and of the flows that have one."""
+
+    @classmethod
+    def prepare(cls):
+        write("numbered.ipfix", NUMBERED)
+        write("one.ipfix", ONE)
+
+    @rows(("in-if", "1|1|3|180\n3|1|3|40\n"), ("out-if", "4294967295|2|6|220\n"),
+          ("vlan", "7|1|3|180\n4095|1|3|40\n"), ("src-as", "64496|2|6|220\n"),
+          ("dst-as", "0|1|3|40\n4200000000|1|3|180\n"))
+    def test_field(self, name, lines):
+        self.assertEqual(inside.texts("bill", "--fields", name, "numbered.ipfix"),
+                         (0, f"{name}|records|packets|bytes\n{lines}", ""))
+        # A File without the element has 0.
+        self.assertEqual(inside.texts("bill", "--fields", name, "one.ipfix"),
+                         (0, f"{name}|records|packets|bytes\n0|1|3|180\n", ""))
+
+    @rows(("in-if", "1-2", 180), ("out-if", "4294967295", 220), ("vlan", "7,8", 180), ("src-as", "1-64495", None),
+          ("dst-as", "0", 40))
+    def test_filter(self, name, value, octets):
+        status, output, error = inside.texts("bill", "--fields", "proto", f"--{name}", value, "numbered.ipfix")
+        lines = "" if octets is None else f"0|{2 if octets == 220 else 1}|{6 if octets == 220 else 3}|{octets}\n"
+        self.assertEqual((status, output, error), (0, f"proto|records|packets|bytes\n{lines}", ""))
+
+    @rows(("in-if", "4294967296"), ("vlan", "65536"), ("src-as", "AS64496"), ("dst-as", "2-1"), ("out-if", "eth0"))
+    def test_fault(self, name, value):
+        status, output, error = inside.texts("bill", "--fields", "proto", f"--{name}", value, "numbered.ipfix")
+        self.assertEqual((status, output), (2, ""))
+        self.assertIn(f"--{name} L1 BadNumberList\n", error)
+
+    def test_report(self):
+        write("table", inside.outcome("bill", "--fields", "vlan,in-if", "numbered.ipfix")[1])
+        self.assertEqual(inside.texts("report", "--fields", "vlan", "table"),
+                         (0, "vlan|records|packets|bytes\n7|1|3|180\n4095|1|3|40\n", ""))
+
+
 @needs(*cluster.NEEDED)
 class Cluster(Isolated):
     """A scheduler and a worker of Dask with certificates of their own. Without these, nothing runs. No run takes more

@@ -39,7 +39,7 @@ from flowlabel import audit, command_line, files, machines, process, programs, t
 
 KINDS = {**audit.KINDS, "times": "rows have no time"}
 FILTERS = ("protocol", "sport", "dport", "saddress", "daddress", "packets", "bytes", "src-label", "dst-label",
-           "any-label")
+           "any-label", "in-if", "out-if", "vlan", "src-as", "dst-as")
 COLUMNS: dict[str | None, list[bytes]] = {None: [], "day": [b"day"], "hour": [b"hour"]}
 PARSER = command_line.Parser("flowlabel-bill [OPTION..] FILE|FOLDER..", page=__doc__)
 files.add_options(PARSER)
