@@ -62,7 +62,8 @@ class Tree:
         for crate in self.crates:
             for file in ("src/lib.rt", "src/below/part.rt", "specs/Lib.antt", "proofs/Lib.antt"):
                 self.put(f"crates/{crate}/{file}", f"{file} of {crate}\n")
-        del self.crates["definition_examples"]
+        for name in ("definition_examples", "nfcapd_read"):
+            self.crates.pop(name, None)
         self.git("init", "-q", "-b", "main")
         self.git("add", ".")
         self.git("-c", "user.name=a", "-c", "user.email=b", "commit", "-qm", "c")
