@@ -135,7 +135,7 @@ FAULTS = (
     ("--label A", PAIRS, "two labels"), ("--label A", BIG, "no such label"), ("--both", BIG, "no column sip"),
     ("--rows", BIG, "needs a table of `rows`"),
 )
-USAGES = ("--by day", "--by=day -- rows f", "--top x", "--top -1", "--csv --json", "--rates --seconds 1",
+USAGES = ("--by day", "--by=day -- rows f", "--top x", "--top -1", "--csv --json", "--rates --seconds=1",
           "--seconds=0", "--both --fields sip", "--none",
           "--fields bytes", "--fields sip,sip", "a b", "--rows --top 3", "--both --side src", "--strings", "--",
           "-- info f", "-- /bin/true", "a -- rows f")

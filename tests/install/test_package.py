@@ -128,7 +128,7 @@ class Packages(PackageCase):
         programs = ("deb/usr/bin/flowlabel", "deb/usr/bin/flowlabel-many")
         scripts = [path for path in files_below("deb") if os.access(path, os.X_OK) and path not in programs]
         self.assertEqual({read(path).split("\n")[0] for path in scripts}, {
-            "#!/bin/sh", "#!/usr/bin/python3", "#!/usr/bin/env -S --block-signal=INT /usr/bin/python3 -I"})
+            "#!/usr/bin/python3", "#!/usr/bin/env -S --block-signal=INT /usr/bin/python3 -I"})
 
     def test_same_files(self):
         """Both have the same programs and commands."""
