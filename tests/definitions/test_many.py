@@ -5,7 +5,7 @@ import os
 import re
 
 from definitions import inputs
-from support import MANY, Case, needs_many, rows, run, write
+from support import MANY, Case, rows, run, write
 
 # The made inputs: a number of seeds, each with this many inputs and a few more. Of a seed PARTS tests try TRIED each.
 SEED, SEEDS, INPUTS, PARTS, TRIED = 20261130, 4, 250, 5, 51
@@ -13,7 +13,6 @@ SEED, SEEDS, INPUTS, PARTS, TRIED = 20261130, 4, 250, 5, 51
 FAULTS = {"F1", "F2", "F3", "F4", "F5", "M1", "S1", "S3", "U4", "P3", "P5", "P7", "L1", "L2", "L3", "cannot open"}
 
 
-@needs_many
 class Many(Case):
     @classmethod
     def prepare(cls):

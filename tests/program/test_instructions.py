@@ -20,7 +20,7 @@ import tempfile
 
 if __name__ == "__main__":
     sys.path.insert(0, os.path.dirname(os.path.dirname(os.path.realpath(__file__))))
-from support import BY_NAME, PROGRAM, ROOT, Case, instructions, made, needs, needs_many, program_of, read, rows, run, \
+from support import BY_NAME, PROGRAM, ROOT, Case, instructions, made, needs, program_of, read, rows, run, \
     system, write
 
 PAGE = ROOT / "docs/ARCHITECTURE.md"
@@ -133,7 +133,6 @@ class CostsOfFlows(Costs):
         self.check(line)
 
 
-@needs_many
 class CostsOfMany(Costs):
     """The costs of lines of flowlabel-many."""
 

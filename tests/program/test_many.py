@@ -16,7 +16,7 @@ import random
 import re
 
 from program.worked import TWO_FLOWS
-from support import MANY, PROGRAM, RECORD, TEMPLATE_SET, Case, command, data_set, ipfix, needs_many, rows, run, write
+from support import MANY, PROGRAM, RECORD, TEMPLATE_SET, Case, command, data_set, ipfix, rows, run, write
 from support import message as message_of
 
 SETS = int(os.environ.get("SETS") or 120)
@@ -166,7 +166,6 @@ class Wanted:
         return run(command("report"), "table", check=True).stdout
 
 
-@needs_many
 class Generated(Case):
     """Sets of Files."""
     is_long = True
@@ -246,7 +245,6 @@ def header_of(message):
     return number, domain, time
 
 
-@needs_many
 class Many(Case):
     """Many Files, large ones, and devices in place of Files."""
 

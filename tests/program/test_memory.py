@@ -29,7 +29,7 @@ import typing
 from program.calls import CALLS
 from program.worked import CLAPS, LARGE, LINES, lines_of, make, text_of
 from program.worked_many import LINES as LINES_OF_MANY
-from support import ROOT, Case, needs, needs_many, preloaded, rows, run
+from support import ROOT, Case, needs, preloaded, rows, run
 
 REFUSED = b"refused\n"
 # What a copy of a process writes to standard error, and then its status.
@@ -127,7 +127,6 @@ class OtherLines(Sweeps):
         self.sweep_line(line)
 
 
-@needs_many
 class LinesOfMany(Sweeps):
     """Command lines of flowlabel-many."""
 

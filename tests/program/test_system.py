@@ -11,7 +11,7 @@ import errno
 import os
 import threading
 
-from support import RECORD, ROW, TEMPLATE_SET, TITLE, Case, data_set, message, needs, needs_many, program_of, read, \
+from support import RECORD, ROW, TEMPLATE_SET, TITLE, Case, data_set, message, needs, program_of, read, \
     read_bytes, rows, system, write
 
 # Rattle's `File::open` makes an interrupted call again.
@@ -198,7 +198,6 @@ class Calls(Checked):
         self.check_message(line, status, stream)
 
 
-@needs_many
 class CallsOfMany(Checked):
     """Those of flowlabel-many."""
 

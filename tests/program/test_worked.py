@@ -6,7 +6,7 @@ import os
 from program.worked import CHECK, HALF, LARGE, LAST, LAST_COMPACT, LAST_LIST, LINES, NESTED, ONE_FLOW, QUARTERS, \
     QUARTERS_CERT, QUARTERS_LIST, TWO_DOMAINS, line_of, lines_of, make
 from program.worked_many import FRONTS as FRONTS_OF_MANY, LINES as LINES_OF_MANY
-from support import Case, needs, needs_many, read_bytes, rows, run, system
+from support import Case, needs, read_bytes, rows, run, system
 
 COUNTS = ("messages {};templates {};options-templates 0;withdrawals 0;data-sets {};skipped-sets {};records {};"
           "options-records 0;rows {};")
@@ -91,7 +91,6 @@ class Lines(Checked):
         self.check(line, make(line))
 
 
-@needs_many
 class LinesOfMany(Checked):
     """The lines of flowlabel-many, and those over a cut File."""
 

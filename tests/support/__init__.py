@@ -96,10 +96,6 @@ def needs(*programs, in_ci=False):
     return unittest.skipIf(missing and not is_required, f"there is no {' and no '.join(missing)}")
 
 
-# Skips a class whose command lines are those of flowlabel-many.
-needs_many = needs(MANY or "flowlabel-many that is built", in_ci=True)
-
-
 def not_in_ci(why):
     """Skips a test or a class in CI, and says why."""
     return unittest.skipIf(os.environ.get("CI"), f"not in CI: {why}")
